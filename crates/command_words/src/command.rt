@@ -1,3 +1,5 @@
+//! The commands that the program takes.
+
 /// The most calls that are drawn for a schedule.
 pub const COUNT_LIMIT: u32 = 1_000_000;
 

@@ -17,7 +17,7 @@ use std::alloc::{AllocError, Global};
 pub enum WordsError {
     /// They aren't taken. A person is told by this text what to type.
     Usage(String),
-    /// There was no memory.
+    /// Memory ran out.
     Memory,
 }
 

@@ -12,7 +12,7 @@ use references::Refs;
 use tree_links::Tree;
 use tree_specs::{FreeFrame, FreeReply, FreeStep, Obj, Owner};
 
-/// A reference is no more, which is to be told.
+/// Drops a reference, and gives the step that tells it.
 #[inline(always)]
 pub fn drop_ref(reference: Obj, target: Obj, tree: &mut Tree, refs: &mut Refs) -> FreeStep
     requires is { RefersTo tree.old.rows (Some reference) target }
@@ -24,14 +24,14 @@ pub fn drop_ref(reference: Obj, target: Obj, tree: &mut Tree, refs: &mut Refs) -
     ensures spare { tree.old.spare ≤ tree.new.spare }
     ensures works { works_of tree.new ≡ works_of tree.old }
 {
-    // All that is wanted of `len` is its contract: a reference owns nothing.
+    // Read for the prover: the contract of `len` says that a reference owns nothing.
     let _rows = tree.len();
     let _target = refs.drop_ref(reference);
     tree.remove(reference);
     FreeStep::Dropped { reference, target }
 }
 
-/// The newest reference that an owner has goes. An owner that has none gives the object up.
+/// Drops the newest reference to an object that an owner has. An owner that has none gives the object up.
 pub fn unlink(owner: Owner, x: Obj, tree: &mut Tree, refs: &mut Refs) -> Motion
     requires refs { AreRefsOf refs.old.pairs tree.old.rows }
     ensures moved { move_of result (pool_of tree.new) ≡ unlink_step x (newest_ref_of tree.old.rows owner x) (pool_of tree.old) }
@@ -48,7 +48,7 @@ pub fn unlink(owner: Owner, x: Obj, tree: &mut Tree, refs: &mut Refs) -> Motion
     Motion::Tells(dropped, FreeFrame::Ending { answer })
 }
 
-/// The owner of an object gives it up: its newest reference goes, and where this wasn't inside the object, the
+/// Lets the owner of an object give it up: its newest reference goes, and where this wasn't inside the object, the
 /// reference's owner gets the object.
 pub fn release(x: Obj, tree: &mut Tree, refs: &mut Refs) -> Motion
     requires refs { AreRefsOf refs.old.pairs tree.old.rows }
@@ -71,7 +71,7 @@ pub fn release(x: Obj, tree: &mut Tree, refs: &mut Refs) -> Motion
     }
 }
 
-/// The newest reference to an object that is to be freed goes. One from inside it makes the freeing begin again, and
+/// Drops the newest reference to an object that is to be freed. One from inside it makes the freeing begin again, and
 /// one from outside holds the object.
 pub fn hold(x: Obj, reference: Obj, tree: &mut Tree, refs: &mut Refs) -> Motion
     requires is { RefersTo tree.old.rows (Some reference) x }

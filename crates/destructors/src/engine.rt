@@ -1,3 +1,11 @@
+//! `FreeEngine`: the frees that are open on a tree. It frees objects step by step, as `talloc_free` does. Each step
+//! says one thing: a destructor is to run, an object has left its owner, an object is gone, the free is over, and so on
+//! (`FreeStep`). It runs no destructor: its caller does, and gives the answer back.
+//!
+//! Contracts see the innermost open work, and with those that wait in the tree one list of works (`frees_of`). What a
+//! step does is said by the table of the rules (`Steps` in `specs/Frees`).
+//!
+//! Read on in `works.rt`, which goes from move to move, and in `moves.rt`, which has each move.
 ghost use Rattle.std.specs.Prelude.{◌≡◌, ◌+◌, ◌≤◌, ◌<◌, Option, length, unwrap_or};
 ghost use Rattle.tree_specs.specs.declared.frame.FreeFrame.{FreeFrame as FreeFrameData};
 ghost use Rattle.tree_specs.specs.Tree.Pool.{Pool as PoolData};
@@ -13,12 +21,12 @@ use tree_links::Tree;
 use tree_specs::{FreeFrame, FreeReply, FreeStep, Mark, Obj, Owner, Purpose};
 
 /// Frees in progress on a tree and the references in it, as `talloc_free` and `talloc_unlink` go, with the runs of
-/// destructors, the receiving of requests, and the freeing of a queue's entries left to the caller. Begins nest: meanwhile
-/// further frees may begin and end. Contracts see the innermost work of the open frees; those that wait for it stand in
-/// the tree, and contracts see both as one list (`frees_of`).
+/// destructors, the receiving of requests, and the freeing of a queue's entries left to the caller. Frees nest: while
+/// one waits, further frees may begin and end. Contracts see the innermost work of the open frees; those that wait for
+/// it stand in the tree, and contracts see both as one list (`frees_of`).
 ///
-/// The engine takes no memory: `Tree::reserve` takes the room for its works. Between a step that asks and the
-/// answer, the caller may do with the tree what keeps that the open frees await it (`IsAwaiting`).
+/// The engine takes no memory: `Tree::reserve` takes the room for its works. Between a step that asks and the answer,
+/// the caller may do with the tree what keeps that the open frees await it (`IsAwaiting`).
 #[derive(Drop)]
 pub struct FreeEngine {
     innermost: Option<FreeFrame>,
@@ -30,7 +38,7 @@ impl Model for FreeEngine {
     ghost view = { λ engine. engine.innermost };
 }
 
-/// The innermost work is to wait in the tree.
+/// Puts the innermost work among those that wait in the tree.
 fn wait(innermost: Option<FreeFrame>, tree: &mut Tree)
     requires { length (before innermost tree.old.frees) ≤ length tree.old.frees + tree.old.room }
     ensures rows { pool_of tree.new ≡ pool_of tree.old }
@@ -53,8 +61,8 @@ fn judged(work: FreeFrame, value: u32) -> FreeFrame
     }
 }
 
-/// A work that waits until its request was received, or its queue has no entries, once this is so. Every other work stays as
-/// it is.
+/// A work that waits until its request was received, or its queue has no entries, once this is so. Every other work
+/// stays as it is.
 fn going_on(work: FreeFrame) -> FreeFrame
     ensures { result ≡ was_prepared work }
 {
@@ -155,8 +163,8 @@ impl FreeEngine {
         self.begin(tree, refs, FreeFrame::Looping { x, purpose });
     }
 
-    /// The destructor that the innermost free waits for has returned a number: with 0 it accepts, with any other
-    /// one it refuses.
+    /// Answers the innermost free, which waits for a destructor, with the number that this has returned: with 0 it
+    /// accepts, with any other one it refuses.
     pub fn answer(&mut self, _tree: &Tree, value: u32)
         requires asked { IsAsked self.old }
         requires awaiting { IsAwaiting (frees_of self.old _tree.now) }
@@ -170,8 +178,7 @@ impl FreeEngine {
         }
     }
 
-    /// What comes before the freeing of the request or the queue that the innermost free waits for is over: the freeing
-    /// goes on.
+    /// Lets the innermost free go on, which has waited for what comes before the freeing of a request or of a queue.
     pub fn prepared(&mut self, tree: &mut Tree, refs: &mut Refs)
         requires preparing { IsPreparing self.old }
         requires awaiting { IsAwaiting (frees_of self.old tree.old) }
@@ -185,8 +192,8 @@ impl FreeEngine {
         }
     }
 
-    /// The object that the next step lets go of: it leaves its owner, or its handler runs and it is to go after it. None
-    /// exactly where the step does neither.
+    /// The object that the next step lets go of: it leaves its owner, or its handler runs and it is to go after it.
+    /// None exactly where the step does neither.
     pub fn lets_go(&self, tree: &Tree, refs: &Refs) -> Option<Obj>
         requires refs { AreRefsOf refs.now.pairs tree.now.rows }
         requires kept { AreKept self.now tree.now }
@@ -200,9 +207,9 @@ impl FreeEngine {
         }
     }
 
-    /// Whether the next step tells an event of its own: a reference is dropped, or an object refuses, accepts, is moved or is
-    /// gone. A step that lets go of an object may tell one besides, which isn't looked at here (`lets_go`).
-    /// Since it is known that the innermost work tells or asks something, or is over, most works say so themselves.
+    /// Whether the next step tells an event of its own: a reference is dropped, or an object refuses, accepts, is moved
+    /// or is gone. A step that lets go of an object may tell one besides, which isn't looked at here (`lets_go`). Since
+    /// it is known that the innermost work tells or asks something, or is over, most works say so themselves.
     pub fn announces(&self, tree: &Tree, refs: &Refs) -> bool
         requires refs { AreRefsOf refs.now.pairs tree.now.rows }
         requires kept { AreKept self.now tree.now }
@@ -235,8 +242,8 @@ impl FreeEngine {
         }
     }
 
-    /// Ends the innermost free where it is over, and gives its answer, as a step that is `Done` does. None, with nothing done,
-    /// where it isn't.
+    /// Ends the innermost free where it is over, and gives its answer, as a step that is `Done` does. None, with
+    /// nothing done, where it isn't.
     pub fn end_free(&mut self, tree: &mut Tree) -> Option<FreeReply>
         requires at_work { IsAtWork (frees_of self.old tree.old) }
         requires settled { speaking (frees_of self.old tree.old) ≡ true }
@@ -258,11 +265,12 @@ impl FreeEngine {
         Some(answer)
     }
 
-    /// What comes next of the innermost free.
+    /// Makes the next step of the innermost free.
     ///
-    /// At `Ask` the caller runs the object's destructor and answers with what it returned. At `Prepare` he receives the
-    /// request, and at `Drain` he frees the entries of the queue, and says so (`prepared`). He may begin further frees until
-    /// then. At `Done` the innermost free is over, and the one around it, if there is one, still waits for its answer.
+    /// At `Ask` the caller runs the object's destructor and answers with what it returned. At `Prepare` it receives the
+    /// request, and at `Drain` it frees the entries of the queue, and says so (`prepared`). It may begin further frees
+    /// until then. At `Done` the innermost free is over, and the one around it, if there is one, still waits for its
+    /// answer.
     pub fn step(&mut self, tree: &mut Tree, refs: &mut Refs) -> FreeStep
         requires at_work { IsAtWork (frees_of self.old tree.old) }
         requires settled { speaking (frees_of self.old tree.old) ≡ true }

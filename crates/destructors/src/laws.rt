@@ -32,9 +32,10 @@ ghost use Rattle.destructors.specs.Runs.{Drives, EndsAs, hook_run};
 ghost use Rattle.destructors.specs.Moves.{IsLiveRow};
 ghost use Rattle.destructors.specs.Works.{AreAwaiting};
 
-/// What is driven from its beginning to its `Done`, by `step`, `answer` and `prepared`, is what the rules' text says over
-/// the answers of the routines that ran, whatever these did to the objects before they returned: its answer, the pool that
-/// it leaves, and all that was told and asked. Other frees may wait meanwhile, for a destructor, a request or a queue.
+/// What is driven from its beginning to its `Done`, by `step`, `answer` and `prepared`, is what the rules' text says
+/// over the answers of the routines that ran, whatever these did to the objects before they returned: its answer, the
+/// pool that it leaves, and all that was told and asked. Other frees may wait meanwhile, for a destructor, a request or
+/// a queue.
 pub fn what_is_driven_to_its_end_is_the_text()
     ensures free { (x : ObjData) (below : List FreeFrameData) (p q : Pool) (s : OpenFrees) (is : List InputData) (told : List Item) (a : FreeReplyData) →
         AreAwaiting below p → NotesHold None p → QueuesHold [] p → target_at p.rows x ≡ None → newest_ref p.rows x ≡ None → Begins (Beginning x ∷ below) p s → Drives s is told a q →

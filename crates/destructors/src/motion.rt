@@ -1,3 +1,4 @@
+//! What a move of a free does, and what is known of it before it is made.
 use tree_specs::{FreeFrame, FreeReply, FreeStep};
 
 /// What one move of the innermost work does.
@@ -9,7 +10,8 @@ pub enum Motion {
     Goes(FreeFrame),
     /// It tells something and goes on.
     Tells(FreeStep, FreeFrame),
-    /// It asks for the run of a destructor, for a request to be received, or for the entries of a queue to be freed, and waits.
+    /// It asks for the run of a destructor, for a request to be received, or for the entries of a queue to be freed,
+    /// and waits.
     Waits(FreeStep, FreeFrame),
     /// It puts the first work before itself, and waits as the second.
     Pushes(FreeFrame, FreeFrame),

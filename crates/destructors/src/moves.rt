@@ -17,7 +17,7 @@ use references::Refs;
 use tree_links::Tree;
 use tree_specs::{FreeFrame, FreeReply, FreeStep, Mark, Obj, Owner, Purpose};
 
-/// The freeing of an object to which there is no reference begins.
+/// Begins the freeing of an object to which there is no reference.
 fn begin(x: Obj, tree: &mut Tree) -> Motion
     ensures moved { move_of result (pool_of tree.new) ≡ begin_step x (row_of tree.old.rows x) (pool_of tree.old) }
     ensures spare { tree.old.spare ≤ tree.new.spare }
@@ -51,7 +51,7 @@ fn begin(x: Obj, tree: &mut Tree) -> Motion
     }
 }
 
-/// The destructor has returned.
+/// Goes by what the destructor has returned.
 fn judge(x: Obj, hook: u32, value: u32, tree: &mut Tree) -> Motion
     requires { IsLiveRow (pool_of tree.old) x }
     ensures moved { move_of result (pool_of tree.new) ≡ judge_step x hook value (pool_of tree.old) }
@@ -72,7 +72,7 @@ fn judge(x: Obj, hook: u32, value: u32, tree: &mut Tree) -> Motion
     Motion::Tells(refused, FreeFrame::Ending { answer })
 }
 
-/// The freeing of an object begins: references come first.
+/// Begins the freeing of an object: references come first.
 fn begin_free(x: Obj, tree: &mut Tree, refs: &mut Refs) -> Motion
     requires refs { AreRefsOf refs.old.pairs tree.old.rows }
     ensures moved { move_of result (pool_of tree.new) ≡ refs_step x (newest_ref tree.old.rows x) (pool_of tree.old) }
@@ -87,7 +87,7 @@ fn begin_free(x: Obj, tree: &mut Tree, refs: &mut Refs) -> Motion
     }
 }
 
-/// A request was received, or a queue has no entries: it is quiet again before it leaves its owner.
+/// Makes a request quiet again that was received, or a queue that has no entries, before it leaves its owner.
 fn go_on(x: Obj, tree: &mut Tree) -> Motion
     requires { IsLiveRow (pool_of tree.old) x }
     ensures moved { move_of result (pool_of tree.new) ≡ free_step (FreeFrame.Prepared x) (pool_of tree.old) }
@@ -99,6 +99,7 @@ fn go_on(x: Obj, tree: &mut Tree) -> Motion
     Motion::Goes(FreeFrame::Leaving { x, hook: 0 })
 }
 
+/// Lets an object leave its owner. Its children come next.
 fn leave(x: Obj, hook: u32, tree: &mut Tree) -> Motion
     requires { IsLiveRow (pool_of tree.old) x }
     ensures moved { move_of result (pool_of tree.new) ≡ free_step (FreeFrame.Leaving x hook) (pool_of tree.old) }
@@ -115,7 +116,7 @@ fn leave(x: Obj, hook: u32, tree: &mut Tree) -> Motion
     )
 }
 
-/// There are no more children.
+/// Ends the loop over the children of an object, of which there are no more.
 fn finish(x: Obj, purpose: Purpose, tree: &mut Tree) -> Motion
     requires rests { MoveRests (Loops x purpose) (pool_of tree.old) }
     requires alone { first_kid tree.old.rows (below x) ≡ None }
@@ -126,7 +127,7 @@ fn finish(x: Obj, purpose: Purpose, tree: &mut Tree) -> Motion
 {
     match purpose {
         Purpose::Removal { hook } => {
-            // All that is wanted of `len` is its contract: each number stands once.
+            // Read for the prover: the contract of `len` says that each number stands once.
             let _rows = tree.len();
             tree.remove(x);
             let answer = FreeReply::Ok;
@@ -139,7 +140,7 @@ fn finish(x: Obj, purpose: Purpose, tree: &mut Tree) -> Motion
     }
 }
 
-/// A child that is a reference is dropped, and any other is freed.
+/// Drops a child that is a reference, and frees any other.
 fn take(x: Obj, child: Obj, purpose: Purpose, tree: &mut Tree, refs: &mut Refs) -> Motion
     requires refs { AreRefsOf refs.old.pairs tree.old.rows }
     ensures moved { move_of result (pool_of tree.new) ≡ child_step x child purpose (target_at tree.old.rows child) (pool_of tree.old) }
@@ -164,6 +165,7 @@ fn take(x: Obj, child: Obj, purpose: Purpose, tree: &mut Tree, refs: &mut Refs) 
     Motion::Tells(dropped, FreeFrame::Looping { x, purpose })
 }
 
+/// Looks for the next child of an object.
 fn look(x: Obj, purpose: Purpose, tree: &mut Tree, refs: &mut Refs) -> Motion
     requires rests { MoveRests (Loops x purpose) (pool_of tree.old) }
     requires refs { AreRefsOf refs.old.pairs tree.old.rows }
@@ -179,7 +181,7 @@ fn look(x: Obj, purpose: Purpose, tree: &mut Tree, refs: &mut Refs) -> Motion
     }
 }
 
-/// An object goes to the owner of a reference that was dropped.
+/// Gives an object to the owner of a reference that was dropped.
 fn give(x: Obj, owner: Owner, tree: &mut Tree) -> Motion
     requires { MayPlace tree.old.rows x owner }
     ensures moved { move_of result (pool_of tree.new) ≡ free_step (FreeFrame.Giving x owner) (pool_of tree.old) }
@@ -198,7 +200,7 @@ fn give(x: Obj, owner: Owner, tree: &mut Tree) -> Motion
     Motion::Tells(moved, FreeFrame::Ending { answer })
 }
 
-/// A child that wasn't freed goes to its heir, where `x` still is its owner.
+/// Gives a child that wasn't freed to its heir, where `x` still is its owner.
 fn hand_on(x: Obj, child: Obj, noted: Option<Owner>, purpose: Purpose, tree: &mut Tree) -> Motion
     requires { MayHandOn (pool_of tree.old) x child noted }
     ensures moved { move_of result (pool_of tree.new) ≡ hand_on_step x child noted purpose (pool_of tree.old) }
@@ -221,7 +223,7 @@ fn hand_on(x: Obj, child: Obj, noted: Option<Owner>, purpose: Purpose, tree: &mu
     Motion::Tells(moved, next)
 }
 
-/// One move of a work.
+/// Makes one move of a work.
 pub fn move_once(work: FreeFrame, tree: &mut Tree, refs: &mut Refs) -> Motion
     requires rests { MoveRests work (pool_of tree.old) }
     requires refs { AreRefsOf refs.old.pairs tree.old.rows }
@@ -231,8 +233,8 @@ pub fn move_once(work: FreeFrame, tree: &mut Tree, refs: &mut Refs) -> Motion
     ensures refs { AreRefsOf refs.new.pairs tree.new.rows }
     ensures places { refs.old.spare ≤ refs.new.spare }
 {
-    // A work that waits is built anew from its parts: where one is copied whole, all the others are kept whole as well, and each
-    // move copies more.
+    // A work that waits is built anew from its parts: where one is copied whole, all the others are kept whole as well,
+    // and each move copies more.
     match work {
         FreeFrame::Unlinking { owner, x } => unlink(owner, x, tree, refs),
         FreeFrame::Releasing { x } => release(x, tree, refs),

@@ -23,6 +23,7 @@ pub struct Progress {
     pub innermost: Option<FreeFrame>,
 }
 
+/// A move that told nothing, after which this work is innermost.
 fn silently(work: FreeFrame) -> Progress
     ensures { result ≡ record { told = None; innermost = Some work } }
 {
@@ -32,6 +33,7 @@ fn silently(work: FreeFrame) -> Progress
     }
 }
 
+/// A move that told this, with the work that is innermost after it.
 fn telling(told: FreeStep, innermost: Option<FreeFrame>) -> Progress
     ensures { result ≡ record { told = Some told; innermost = innermost } }
 {
@@ -41,8 +43,8 @@ fn telling(told: FreeStep, innermost: Option<FreeFrame>) -> Progress
     }
 }
 
-/// Whether a work waits for no free, but for the run of a destructor, until a request was received, or until the entries
-/// of a queue are freed.
+/// Whether a work waits for no free, but for the run of a destructor, until a request was received, or until the
+/// entries of a queue are freed.
 fn awaits_run(work: FreeFrame) -> bool
     ensures { result ≡ awaits_run work }
 {
@@ -73,7 +75,7 @@ fn resumed(work: FreeFrame, answer: FreeReply) -> FreeFrame
     }
 }
 
-/// The innermost work is over. Its answer goes to the work below it; where that waits for no free, or there is none, the
+/// Ends the innermost work. Its answer goes to the work below it; where that waits for no free, or there is none, the
 /// free is over.
 pub fn end(answer: FreeReply, tree: &mut Tree) -> Progress
     ensures moved { answered answer (pool_of tree.old) tree.old.frees ≡ (result.told, frees_of result.innermost tree.new) }
@@ -89,7 +91,7 @@ pub fn end(answer: FreeReply, tree: &mut Tree) -> Progress
     }
 }
 
-/// One move.
+/// Makes one move.
 #[tactic(auto, using(crate::proofs::FreeMoves::push_room))]
 pub fn advance(work: FreeFrame, tree: &mut Tree, refs: &mut Refs) -> Progress
     requires rests { MoveRests work (pool_of tree.old) }
@@ -114,8 +116,8 @@ pub fn advance(work: FreeFrame, tree: &mut Tree, refs: &mut Refs) -> Progress
     }
 }
 
-/// An object that is to be asked, or to be prepared, is marked so before the next work, and one that was prepared is quiet
-/// again after the former work.
+/// Sets the mark that goes with a move from one work to the next: an object that is to be asked, or to be prepared, is
+/// marked so, and one that was prepared is quiet again.
 fn enter(work: FreeFrame, next: FreeFrame, tree: &mut Tree)
     requires { MayEnter work next (pool_of tree.old) }
     ensures rows { pool_of tree.new ≡ entered work next (pool_of tree.old) }
@@ -131,8 +133,8 @@ fn enter(work: FreeFrame, next: FreeFrame, tree: &mut Tree)
     }
 }
 
-/// A work ends, and the free that waits for it goes on. None where none waits for a free: then this free is over, which is
-/// told, and nothing is done.
+/// Ends a work, and lets the free that waits for it go on. None where none waits for a free: then this free is over,
+/// which is told, and nothing is done.
 fn end_quietly(_work: FreeFrame, answer: FreeReply, tree: &mut Tree) -> Option<FreeFrame>
     requires { free_step _work (pool_of tree.old) ≡ Do.Done answer (pool_of tree.old) }
     ensures moved { MovesQuietly _work tree.old result tree.new }
@@ -148,8 +150,8 @@ fn end_quietly(_work: FreeFrame, answer: FreeReply, tree: &mut Tree) -> Option<F
     Some(resumed(waiting, answer))
 }
 
-/// The next move of a work where it tells nothing, with the work that is innermost after it. None where the move tells or
-/// asks something, or ends the free: then nothing is done.
+/// Makes the next move of a work where it tells nothing, and gives the work that is innermost after it. None where the
+/// move tells or asks something, or ends the free: then nothing is done.
 pub fn move_quietly(work: &FreeFrame, tree: &mut Tree, refs: &Refs) -> Option<FreeFrame>
     requires rests { MoveRests work.now (pool_of tree.old) }
     requires room { HasRoom (Some work.now) tree.old }
@@ -173,8 +175,8 @@ pub fn move_quietly(work: &FreeFrame, tree: &mut Tree, refs: &Refs) -> Option<Fr
     }
 }
 
-/// The moves that tell nothing, up to the next one that does. The innermost work is changed where it is kept: moving one costs
-/// more than most moves do.
+/// Makes the moves that tell nothing, up to the next one that does. The innermost work is changed where it is kept:
+/// moving one costs more than most moves do.
 #[inline(always)]
 pub fn settle(innermost: &mut Option<FreeFrame>, tree: &mut Tree, refs: &mut Refs)
     requires ready { IsBetweenCalls innermost.old tree.old }

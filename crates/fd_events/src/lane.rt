@@ -1,3 +1,4 @@
+//! The order in which events on descriptors are looked at. One joins it at the end, and leaves it wherever it stands.
 ghost use Rattle.std.specs.Prelude.{◌≡◌, ℕ, ◌∷◌, List, Some, true, false};
 ghost use Rattle.std.specs.FinMap as map;
 ghost use Rattle.linked_lanes.specs.Lane.{has, without};
@@ -27,7 +28,7 @@ impl Lane {
         self.nodes.get(x).copied()
     }
 
-    /// One with these neighbours leaves its place, and keeps what is noted under its number.
+    /// Takes one with these neighbours out of its place. What is noted under its number stays.
     pub(crate) fn leave(&mut self, sides: Sides)
         ensures lane { (xs : List ℕ) (x : ℕ) → IsLane self.old xs → has xs x ≡ true → sides ≡ sides_in xs x → IsLane self.new (without xs x) }
         ensures watches { (q : ℕ) → watch_at self.new.nodes.pairs q ≡ watch_at self.old.nodes.pairs q }
@@ -40,7 +41,7 @@ impl Lane {
         set_link(&mut self.nodes, sides.older, Link::Newer(sides.newer));
     }
 
-    /// One that is noted under its number, and has no place, is looked at after all others.
+    /// Puts one that is noted under its number, and has no place, behind all others.
     pub(crate) fn join(&mut self, x: u64)
         ensures lane { (xs : List ℕ) → IsLane self.old xs → has xs x ≡ false → is_there self.old x ≡ true → IsLane self.new (x ∷ xs) }
         ensures watches { (q : ℕ) → watch_at self.new.nodes.pairs q ≡ watch_at self.old.nodes.pairs q }

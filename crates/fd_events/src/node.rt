@@ -1,3 +1,4 @@
+//! What is kept of an event on a descriptor: how it watches, and its neighbours in the order.
 ghost use Rattle.std.specs.Prelude.{◌≡◌, ℕ, cond, nat_eq};
 ghost use Rattle.std.specs.Option.{option_map};
 ghost use Rattle.std.specs.FinMap as map;
@@ -33,7 +34,7 @@ impl Node {
     }
 }
 
-/// An event has another neighbour. Nothing changes where none is given, or where that one doesn't watch.
+/// Notes another neighbour of an event. Nothing changes where none is given, or where that one doesn't watch.
 pub(crate) fn set_link(nodes: &mut Arena<Node>, at: Option<u64>, link: Link)
     ensures sides { (q : ℕ) → sides_at nodes.new.pairs q ≡ cond (is_at at q) (option_map (noted link) (sides_at nodes.old.pairs q)) (sides_at nodes.old.pairs q) }
     ensures watches { (q : ℕ) → watch_at nodes.new.pairs q ≡ watch_at nodes.old.pairs q }
@@ -47,7 +48,7 @@ pub(crate) fn set_link(nodes: &mut Arena<Node>, at: Option<u64>, link: Link)
     }
 }
 
-/// An event has these neighbours. Nothing changes where it doesn't watch.
+/// Notes the neighbours of an event. Nothing changes where it doesn't watch.
 pub(crate) fn set_sides(nodes: &mut Arena<Node>, x: u64, sides: Sides)
     ensures sides { (q : ℕ) → sides_at nodes.new.pairs q ≡ cond (nat_eq x q) (option_map (λ (_ : SidesData). sides) (sides_at nodes.old.pairs q)) (sides_at nodes.old.pairs q) }
     ensures watches { (q : ℕ) → watch_at nodes.new.pairs q ≡ watch_at nodes.old.pairs q }
@@ -59,7 +60,7 @@ pub(crate) fn set_sides(nodes: &mut Arena<Node>, x: u64, sides: Sides)
     }
 }
 
-/// An event is watched for something else. Nothing changes where it doesn't watch.
+/// Sets what an event is watched for. Nothing changes where it doesn't watch.
 pub(crate) fn set_flags(nodes: &mut Arena<Node>, x: u64, flags: u32)
     ensures nodes { (q : ℕ) → map.get nodes.new.pairs q ≡ cond (nat_eq x q) (option_map (with_flags flags) (map.get nodes.old.pairs q)) (map.get nodes.old.pairs q) }
     ensures len { map.len nodes.new.pairs ≡ map.len nodes.old.pairs }
@@ -70,7 +71,7 @@ pub(crate) fn set_flags(nodes: &mut Arena<Node>, x: u64, flags: u32)
     }
 }
 
-/// The descriptor of an event is closed with it. Nothing changes where it doesn't watch.
+/// Marks the descriptor of an event to be closed with it. Nothing changes where it doesn't watch.
 pub(crate) fn set_closing(nodes: &mut Arena<Node>, x: u64)
     ensures nodes { (q : ℕ) → map.get nodes.new.pairs q ≡ cond (nat_eq x q) (option_map with_closing (map.get nodes.old.pairs q)) (map.get nodes.old.pairs q) }
     ensures len { map.len nodes.new.pairs ≡ map.len nodes.old.pairs }

@@ -1,3 +1,4 @@
+//! Descriptors that are ready, and the events that come by them.
 ghost use Rattle.std.specs.Prelude.{◌≡◌, true};
 ghost use Rattle.tree_specs.specs.Words.Wants.{rises};
 ghost use Rattle.tree_specs.specs.Events.Rotation.{ready_for as ready_for_in};

@@ -1,3 +1,10 @@
+//! `Ring`: the events on descriptors, in the order in which a turn of the event loop looks at them. An event is found
+//! by its number, and by its descriptor, in the same time however many there are.
+//!
+//! Contracts see the list of how each event watches, the one that is looked at first in front, and for how many more
+//! there is memory (`spare`).
+//!
+//! Read on in `lane.rt` and `node.rt`, which keep the order, and in `ready.rt`.
 ghost use Rattle.std.specs.Prelude.{◌≡◌, ◌++◌, ◌∷◌, [], OnOk};
 ghost use Rattle.std.specs.Option.{option_map};
 ghost use Rattle.tree_specs.specs.Events.Rotation.{wanted_of};
@@ -13,8 +20,9 @@ use std::marker::Model;
 use tree_specs::{Memory, Obj, Want, Wants, Watch};
 
 /// The events on descriptors (`tevent_add_fd`), in the order in which a loop looks at them: one that has come goes to
-/// the end. Contracts see the list of how each watches, and spare: so many can be added without taking memory. Each call
-/// but `first_ready` and `wants` takes the same time however many there are.
+/// the end. Contracts see the list of how each watches, and spare: so many can be added without taking memory. Each
+/// call but `first_ready` and `wants` takes the same time however many there are. Only `reserve` and `wants` take
+/// memory.
 #[derive(Drop)]
 pub struct Ring {
     /// The events, in their order.
@@ -43,7 +51,7 @@ struct Place {
     next: Option<Obj>,
 }
 
-// The object of this number, where there is one.
+/// The object of this number, where there is one.
 fn obj(number: Option<u64>) -> Option<Obj>
     ensures { result ≡ option_map numbered number }
 {
@@ -53,7 +61,7 @@ fn obj(number: Option<u64>) -> Option<Obj>
     }
 }
 
-// Adds what an event is watched for, if there is something.
+/// Adds what an event is watched for, if there is something.
 fn push_want(out: &mut Vec<Want>, watch: Watch) -> Result<(), Memory>
     ensures { OnOk result (out.new.items ≡ out.old.items ++ wanted_of (watch ∷ [])) }
 {
@@ -70,7 +78,7 @@ impl Ring {
     ghost use Rattle.fd_events.specs.Rotation.{AreEventsOnce, AreDescriptorsOnce, ready_event};
     ghost use Rattle.fd_events.specs.Linked.{from_on, IsPlace};
 
-    /// No events. It takes no memory.
+    /// No events.
     pub fn new(alloc: Global) -> Ring
         ensures { result.watches ≡ [] }
     {
@@ -84,7 +92,7 @@ impl Ring {
         }
     }
 
-    /// Takes memory for so many more events. After want of memory they are as they were.
+    /// Takes memory for so many more events. If memory runs out, they are as they were.
     pub fn reserve(&mut self, more: usize) -> Result<(), Memory>
         ensures watches { self.new.watches ≡ self.old.watches }
         ensures spare { OnOk result (more ≤ self.new.spare) }
@@ -95,9 +103,9 @@ impl Ring {
         Ok(())
     }
 
-    /// An event watches a descriptor (`tevent_add_fd`), and is looked at after all others. What it watches for is 1 for
+    /// Adds an event that watches a descriptor (`tevent_add_fd`), behind all others. What it watches for is 1 for
     /// reading (`TEVENT_FD_READ`), 2 for writing (`TEVENT_FD_WRITE`), 3 for both, 0 for neither. The descriptor isn't
-    /// closed with it. It takes no memory.
+    /// closed with it.
     pub fn add(&mut self, x: Obj, fd: u32, flags: u32)
         requires room { 0 < self.old.spare }
         requires absent { is_watching self.old.watches x ≡ false }
@@ -123,7 +131,7 @@ impl Ring {
         self.lane.join(x.0);
     }
 
-    /// An event watches no longer. Gives how it watched, and None exactly where it watched nothing.
+    /// Removes an event, which watches no longer. Gives how it watched, and None exactly where it watched nothing.
     pub fn remove(&mut self, x: Obj) -> Option<Watch>
         ensures watch { result ≡ watch_of self.old.watches x }
         ensures watches { self.new.watches ≡ unwatched self.old.watches x }
@@ -136,7 +144,7 @@ impl Ring {
         Some(node.watch(x))
     }
 
-    /// An event is watched for something else (`tevent_fd_set_flags`), and keeps its place. Nothing changes where it watches
+    /// Sets what an event is watched for (`tevent_fd_set_flags`). It keeps its place. Nothing changes where it watches
     /// nothing.
     pub fn set_flags(&mut self, x: Obj, flags: u32)
         ensures watches { self.new.watches ≡ rewatched (flagged flags) self.old.watches x }
@@ -145,8 +153,8 @@ impl Ring {
         set_flags(&mut self.lane.nodes, x.0, flags);
     }
 
-    /// The descriptor of an event is closed when the event goes (`tevent_fd_set_auto_close`). Nothing changes where it
-    /// watches nothing.
+    /// Marks the descriptor of an event to be closed when the event goes (`tevent_fd_set_auto_close`). Nothing changes
+    /// where it watches nothing.
     pub fn set_closing(&mut self, x: Obj)
         ensures watches { self.new.watches ≡ rewatched closing self.old.watches x }
         ensures spare { self.old.spare ≤ self.new.spare }
@@ -177,8 +185,7 @@ impl Ring {
         obj(self.holders.get(u64::from(fd)).copied())
     }
 
-    /// An event that has come is looked at after all others. Nothing changes where it watches nothing. It takes no
-    /// memory.
+    /// Puts an event that has come behind all others. Nothing changes where it watches nothing.
     pub fn turn_back(&mut self, x: Obj)
         ensures watches { self.new.watches ≡ turned_back self.old.watches x }
         ensures spare { self.old.spare ≤ self.new.spare }
@@ -189,14 +196,14 @@ impl Ring {
         }
     }
 
-    // The event that is looked at first. None exactly where there is none.
+    /// The event that is looked at first. None exactly where there is none.
     fn oldest(&self) -> Option<Obj>
         ensures { from_on self.now.watches result ≡ self.now.watches }
     {
         obj(self.lane.oldest)
     }
 
-    // How an event watches, and the one behind it. None exactly where it watches nothing.
+    /// How an event watches, and the one behind it. None exactly where it watches nothing.
     fn place(&self, x: Obj) -> Option<Place>
         ensures { IsPlace self.now.watches x result }
     {
@@ -237,7 +244,7 @@ impl Ring {
         None
     }
 
-    // Adds the descriptors that are watched for something, and what for, in the order of the rotation.
+    /// Adds the descriptors that are watched for something, and what for, in the order of the rotation.
     fn push_wants(&self, out: &mut Vec<Want>) -> Result<(), Memory>
         ensures { OnOk result (out.new.items ≡ out.old.items ++ wanted_of self.now.watches) }
     {
@@ -252,8 +259,8 @@ impl Ring {
         Ok(())
     }
 
-    /// Gives the descriptors that are watched for something, and what for, in the order of the rotation, in place of what
-    /// was there. It takes the time of all events. After want of memory nothing is given.
+    /// Gives the descriptors that are watched for something, and what for, in the order of the rotation, in place of
+    /// what was in `out`. It takes the time of all events. If memory runs out, nothing is given.
     pub fn wants(&self, out: &mut Vec<Want>) -> Result<(), Memory>
         ensures wants { OnOk result (out.new.items ≡ wanted_of self.now.watches) }
         ensures nothing { OnErr result (out.new.items ≡ []) }

@@ -1,4 +1,4 @@
-//! The top call.
+//! `host_main`: what the program does, from its words to its status.
 ghost use Rattle.std.specs.Prelude.{◌≡◌, ◌≢◌, ◌≤◌, ◌⊎◌, ℕ, None, Some, IfSome};
 ghost use Rattle.tree_specs.specs.declared.schedule.Reason.{Reason};
 ghost use Rattle.tree_specs.specs.Texts.Schedule.{judge};
@@ -19,9 +19,9 @@ use std::alloc::Global;
 /// Does what the words say, and says on `err` what the status means.
 ///
 /// The word `replay` replays the schedule that `input` gives into its transcript, which goes to `out`. The words
-/// `load NUMBER COUNT` make a schedule of COUNT calls from a number and put five lines on its transcript to `out`. Where
-/// words aren't taken the status is 2, and a person is told what to type. A fault of `err`, or running out of memory
-/// there, changes no status.
+/// `load NUMBER COUNT` make a schedule of COUNT calls from a number and put five lines on its transcript to `out`.
+/// Where words aren't taken the status is 2, and a person is told what to type. A fault of `err`, or running out of
+/// memory there, changes no status.
 pub fn host_main<S: Source, K: Sink, E: Sink>(
     alloc: Global,
     words: &[String],
@@ -29,17 +29,17 @@ pub fn host_main<S: Source, K: Sink, E: Sink>(
     out: &mut K,
     err: &mut E,
 ) -> Status
-    // The status is 2 exactly where the words aren't taken, unless there was no memory.
+    // The status is 2 exactly where the words aren't taken, unless memory ran out.
     ensures usage { result ≡ Status.Usage → names words.now ≡ None }
     ensures not_taken { names words.now ≡ None → (result ≡ Status.Usage) ⊎ (result ≡ Status.NoMemory) }
     ensures usage_input { result ≡ Status.Usage → input.new ≡ input.old }
     ensures usage_out { result ≡ Status.Usage → out.new ≡ out.old }
 
-    // Of the word `replay`: all is read, no line is refused, and the transcript of the story over the schedule's inputs
-    // has been written.
+    // Of the word `replay`: all is read, no line is rejected, and the transcript of the story over the schedule's
+    // inputs has been written.
     ensures done { names words.now ≡ Some Command.Replay → result ≡ Status.Done → IfSome (S.left input.old) (λ bytes. IsDone bytes (S.left input.new) (K.held out.old) (K.held out.new)) }
 
-    // The first refused line, after the transcript of the lines before it. It comes of no other words.
+    // The first rejected line, after the transcript of the lines before it. It comes of no other words.
     ensures bad { (line : ℕ) (reason : Reason) → result ≡ Status.BadSchedule line reason → IfSome (S.left input.old) (λ bytes. IsBad bytes line reason (K.held out.old) (K.held out.new)) }
     ensures bad_words { (line : ℕ) (reason : Reason) → result ≡ Status.BadSchedule line reason → names words.now ≡ Some Command.Replay }
 
@@ -49,19 +49,19 @@ pub fn host_main<S: Source, K: Sink, E: Sink>(
     ensures story { names words.now ≡ Some Command.Replay → result ≡ Status.Done → IfSome (S.left input.old) (λ bytes. WritesStory bytes (K.held out.old) (K.held out.new)) }
     ensures story_before { (line : ℕ) (reason : Reason) → result ≡ Status.BadSchedule line reason → line ≢ 1 → IfSome (S.left input.old) (λ bytes. WritesStory bytes (K.held out.old) (K.held out.new)) }
 
-    // After a fault, and without memory, a prefix of the transcript has been written.
+    // After a fault, and when memory runs out, a prefix of the transcript has been written.
     ensures read_fault { result ≡ Status.ReadFault → Rose (S.faults input.old) (S.faults input.new) }
     ensures read_cut { result ≡ Status.ReadFault → IfSome (S.left input.old) (λ bytes. IsCutShort bytes (S.left input.new) (K.held out.old) (K.held out.new)) }
     ensures write_fault { result ≡ Status.WriteFault → Rose (K.faults out.old) (K.faults out.new) }
     ensures write_front { names words.now ≡ Some Command.Replay → result ≡ Status.WriteFault → IfSome (S.left input.old) (λ bytes. IsFrontOf bytes (K.held out.old) (K.held out.new)) }
     ensures memory_front { names words.now ≡ Some Command.Replay → result ≡ Status.NoMemory → IfSome (S.left input.old) (λ bytes. IsFrontOf bytes (K.held out.old) (K.held out.new)) }
 
-    // Where no line is to be refused and no fault was counted, only memory can be wanting.
+    // Where no line is to be rejected and no fault was counted, all is done, or memory ran out.
     ensures complete { names words.now ≡ Some Command.Replay → IfSome (S.left input.old) (λ bytes. judge bytes ≡ None →
         (Rose (S.faults input.old) (S.faults input.new) → ⊥) → (Rose (K.faults out.old) (K.faults out.new) → ⊥) → (result ≡ Status.Done) ⊎ (result ≡ Status.NoMemory)) }
 
-    // Of the words `load NUMBER COUNT`: the five lines of the transcript of that schedule have been written, and after a
-    // fault, and without memory, a prefix of them. Nothing is read.
+    // Of the words `load NUMBER COUNT`: the five lines of the transcript of that schedule have been written, and after
+    // a fault, and when memory runs out, a prefix of them. Nothing is read.
     ensures loads { (number count : ℕ) → names words.now ≡ Some (Command.Load number count) → Loads number count (K.held out.old) (K.held out.new) result }
     ensures loads_input { (number count : ℕ) → names words.now ≡ Some (Command.Load number count) → input.new ≡ input.old }
     ensures loads_complete { (number count : ℕ) → names words.now ≡ Some (Command.Load number count) →

@@ -9,6 +9,7 @@ use itoa::Buffer;
 use outside::{PutError, Sink, put_all};
 use tree_specs::Reason;
 
+/// The reason for rejecting a line, as it is said.
 fn reason_bytes(reason: Reason) -> &'static [u8]
     ensures { result.now ≡ reason_text reason }
 {
@@ -20,7 +21,7 @@ fn reason_bytes(reason: Reason) -> &'static [u8]
     }
 }
 
-/// Says which line was refused, and why.
+/// Says which line was rejected, and why.
 fn say_line<E: Sink>(err: &mut E, line: u64, reason: Reason) -> Result<(), PutError>
     ensures bytes { PutsAll (E.held err.old) (E.held err.new) result (line_text line reason) }
     ensures cause { Counts (E.faults err.old) (E.faults err.new) (result ≡ Err PutError.Write) }

@@ -1,3 +1,4 @@
+//! How the program ends, and the number for it.
 ghost use Rattle.std.specs.Prelude.{◌≡◌};
 ghost use Rattle.host_app.specs.Statuses.{status_of, status_of_load, status_number};
 
@@ -14,11 +15,11 @@ pub enum Status {
     ReadFault,
     /// The words are none that the program takes, or ask for help. Status 2.
     Usage,
-    /// The line with this number, from 1, is the first that was refused. Status 3.
+    /// The line with this number, from 1, is the first that was rejected. Status 3.
     BadSchedule { line: u64, reason: Reason },
     /// A put to the output failed. Status 4.
     WriteFault,
-    /// There was no memory. Status 6.
+    /// Memory ran out. Status 6.
     NoMemory,
 }
 

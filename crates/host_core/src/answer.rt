@@ -1,3 +1,4 @@
+//! Answers from one open work to the one below it.
 ghost use Rattle.std.specs.Prelude.{◌≡◌};
 ghost use Rattle.tree_specs.specs.Machine.Table.{reply_in, value_in, heard_in};
 ghost use Rattle.host_core.specs.Stacks.{answer_of};
@@ -20,7 +21,7 @@ pub enum Answer {
 }
 
 impl Answer {
-    /// What a free that waits for a free is told.
+    /// What a caller is told whose call waits for a free.
     pub fn of_free(self) -> FreeReply
         ensures { result ≡ reply_in (answer_of self) }
     {

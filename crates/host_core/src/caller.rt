@@ -15,7 +15,7 @@ use object_pool::ObjectPool;
 use std::mem;
 use tree_specs::{Ask, Event, Handler, Moment, Notice, Obj, Occasion, Reply, What};
 
-/// One that is asked for calls, and is told the reply to each. It is known by its question.
+/// A caller: it is asked for calls, and is told the reply to each. It is known by its question.
 #[derive(Drop)]
 pub struct Caller {
     pub ask: Ask,
@@ -43,7 +43,7 @@ fn event_of(notice: Notice) -> Event
     }
 }
 
-/// The moment after one more call, to which this was the reply.
+/// Moves a moment on by one call, to which this was the reply.
 fn note(moment: &mut Moment, last: Reply)
     ensures { Routine moment.new ≡ later (Routine moment.old) last }
 {
@@ -53,7 +53,8 @@ fn note(moment: &mut Moment, last: Reply)
     moment.last = Some(last);
 }
 
-/// A routine remembers the reply to its last call, and how many calls it has done.
+/// Makes a routine remember the reply to its last call, and how many calls it has done. Any other caller remembers
+/// nothing.
 fn remember(ask: &mut Ask, last: ShortReply)
     ensures { ask.new ≡ later ask.old (reply_of last) }
 {
@@ -62,7 +63,7 @@ fn remember(ask: &mut Ask, last: ShortReply)
     }
 }
 
-/// A routine remembers a reply that owns memory, of which it has the copy.
+/// Makes a routine remember a reply that owns memory, by the copy that was made of it.
 fn remember_copy(ask: &mut Ask, copy: Option<Reply>)
     ensures { ask.new ≡ remembers ask.old copy }
 {
@@ -102,7 +103,7 @@ impl Caller {
         Caller::routine(What::Hook, x, handler, plainly)
     }
 
-    /// The reply to its call comes next, and the caller remembers it.
+    /// Makes the reply to its call come next. A routine remembers it.
     #[inline(always)]
     pub fn reply(&mut self, reply: ShortReply)
         ensures { frame_of self.new ≡ telling self.old.ask reply }
@@ -111,7 +112,7 @@ impl Caller {
         self.stage = Stage::Telling(reply.reply());
     }
 
-    /// A notice comes next, and then the reply, which the caller remembers.
+    /// Makes a notice come next, and then the reply, which a routine remembers.
     pub fn announce(&mut self, notice: Notice, reply: ShortReply)
         ensures { frame_of self.new ≡ announcing self.old.ask notice reply }
     {
@@ -119,7 +120,7 @@ impl Caller {
         self.stage = Stage::Announcing(notice, reply.reply());
     }
 
-    /// A caller whose turn is over, or whom the outside has answered, with this reply.
+    /// A caller whose turn is over, or that the outside has answered, with this reply.
     #[inline(always)]
     pub fn after(ask: Ask, reply: ShortReply) -> Caller
         ensures { frame_of result ≡ telling ask reply }
@@ -132,7 +133,7 @@ impl Caller {
         caller
     }
 
-    /// A caller who is told a notice, and then this reply.
+    /// A caller that is told a notice, and then this reply.
     pub fn announcing(ask: Ask, notice: Notice, reply: ShortReply) -> Caller
         ensures { frame_of result ≡ announcing ask notice reply }
     {
@@ -144,7 +145,7 @@ impl Caller {
         caller
     }
 
-    /// A reply that owns memory comes next. A routine remembers the copy.
+    /// Makes a reply that owns memory come next. A routine remembers the copy.
     pub fn reply_whole(&mut self, reply: Reply, copy: Option<Reply>)
         ensures { frame_of self.new ≡ Telling (remembers self.old.ask copy) reply }
     {
@@ -152,7 +153,7 @@ impl Caller {
         self.stage = Stage::Telling(reply);
     }
 
-    /// The event that comes next, which is told now. None where the caller asks.
+    /// Tells the event that comes next. None where the caller asks.
     pub fn tell(&mut self) -> Option<Event>
         ensures event { result ≡ told_by (frame_of self.old) }
         ensures frame { frame_of self.new ≡ after_telling (frame_of self.old) }

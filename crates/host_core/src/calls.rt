@@ -1,4 +1,4 @@
-//! The steps of a caller: a call is done, or its reply is there.
+//! What each call does, once its tests are passed.
 ghost use Rattle.std.specs.Prelude.{◌≡◌, Bool, None, false, if◌then◌else◌, true};
 ghost use Rattle.tree_specs.specs.Calls.Refusals.{tests, refusals};
 ghost use Rattle.tree_specs.specs.Calls.Passed.{AllPassed};
@@ -25,7 +25,7 @@ use tree_specs::{
     Ask, Call, Errand, FreeReply, Handler, Kind, Name, Note, Notice, Obj, Owner, Refusal, State,
 };
 
-/// The reply to a call that has freed.
+/// The reply to a call that has waited for a free, by the answer with which this has ended.
 pub fn freed(x: Obj, answer: FreeReply) -> ShortReply
     ensures { reply_of result ≡ freed_reply x answer }
 {
@@ -37,14 +37,14 @@ pub fn freed(x: Obj, answer: FreeReply) -> ShortReply
     }
 }
 
-/// Whether it is worth a warning that an object goes to an owner: it has references, and another owner.
+/// Whether to warn that an object goes to an owner: there are references to the object, and this is not its owner yet.
 fn warns(owner: Owner, x: Obj, pool: &ObjectPool) -> bool
     ensures { result ≡ worth_a_warning pool.now.pool owner x }
 {
     pool.newest(x).is_some() && !pool.owns(owner, x)
 }
 
-/// Puts an object below an owner. What is worth a warning is told before the reply.
+/// Puts an object below an owner. A warning is told before the reply.
 fn give(x: Obj, owner: Owner, reply: ShortReply, pool: &mut ObjectPool) -> Motion
     requires { MayPlace pool.old.pool.rows x owner }
     ensures goes { ReadyFor result pool.new.ready }
@@ -72,7 +72,7 @@ fn free(x: Obj, pool: &ObjectPool) -> Motion
     }
 }
 
-/// Closes a descriptor, which is told before the reply.
+/// Closes a descriptor. This is told before the reply.
 fn close(fd: u32, pool: &mut ObjectPool) -> Motion
     ensures goes { ReadyFor result pool.new.ready }
     ensures works { pool.new.works ≡ pool.old.works }
@@ -82,21 +82,21 @@ fn close(fd: u32, pool: &mut ObjectPool) -> Motion
     Motion::Announces(Notice::Closed(fd), ShortReply::Ok)
 }
 
-/// The reply is a number.
+/// Replies with a number.
 fn number(n: u64) -> Motion
     ensures { result ≡ Replies (NumberReply n) }
 {
     Motion::Replies(ShortReply::Number(n))
 }
 
-/// 1 where a queue runs, and else 0.
+/// Replies 1 where a queue runs, and else 0.
 fn running(queue: Obj, pool: &ObjectPool) -> Motion
     ensures { result ≡ Replies (NumberReply (if runs pool.now.pool.queues queue then 1 else 0)) }
 {
     number(u64::from(pool.queue_running(queue).unwrap_or(false)))
 }
 
-/// How a request has failed: 0 where it is done, and else the number of its state and that of its failure.
+/// Replies how a request has failed: 0 where it is done, and else the number of its state and that of its failure.
 fn failure(note: Option<Note>) -> Motion
     ensures moved { (q : AskData) (p : PoolData) → move_of q result p ≡ plan_step q (replies (failure_reply note)) p }
     ensures goes { (ready : Bool) → ReadyFor result ready }
@@ -110,7 +110,7 @@ fn failure(note: Option<Note>) -> Motion
     Motion::Replies(ShortReply::Pair(u64::from(note.state.number()), note.error))
 }
 
-/// 1 where a request is in progress, and else 0.
+/// Replies 1 where a request is in progress, and else 0.
 fn progress(note: Option<Note>) -> Motion
     ensures moved { (q : AskData) (p : PoolData) → move_of q result p ≡ plan_step q (replies (progress_reply note)) p }
     ensures goes { (ready : Bool) → ReadyFor result ready }
@@ -119,7 +119,7 @@ fn progress(note: Option<Note>) -> Motion
     number(u64::from(is_in_progress))
 }
 
-/// A request fails with a number; with 0 it doesn't.
+/// Lets a request fail with a number. With 0 it doesn't fail.
 fn fail(x: Obj, error: u64, pool: &mut ObjectPool) -> Motion
     requires { pool.old.ready ≡ true }
     ensures goes { ReadyFor result pool.old.ready }
@@ -134,7 +134,7 @@ fn fail(x: Obj, error: u64, pool: &mut ObjectPool) -> Motion
     Motion::Works(Errand::Finish(State::UserError), x)
 }
 
-/// What is done with a request.
+/// Begins the work that takes a request to this state. The caller waits for it.
 fn finish(x: Obj, state: State) -> Motion
     ensures { result ≡ Works (FinishOf state) x }
 {
@@ -201,7 +201,7 @@ fn set_or_tell(call: Call, pool: &mut ObjectPool) -> Motion
     Motion::Replies(ShortReply::Ok)
 }
 
-/// Does a call that is over at once. Where it makes an object, this has the number that is the reply.
+/// Does a call that is over at once. One that makes an object replies its number.
 #[inline(always)]
 #[tactic(auto, using(crate::proofs::Allowed::may_go, crate::proofs::Allowed::may_go_itself))]
 fn do_at_once(call: Call, pool: &mut ObjectPool) -> Motion
@@ -247,7 +247,7 @@ fn do_at_once(call: Call, pool: &mut ObjectPool) -> Motion
     number(made.0)
 }
 
-/// Does a call that isn't refused, and takes no memory for its reply: for what the caller waits for the work begins.
+/// Does a call that isn't refused and whose reply takes no memory: any call but a report.
 #[tactic(auto, using(crate::proofs::Allowed::may_go, crate::proofs::Allowed::may_go_itself))]
 fn effect(call: Call, pool: &mut ObjectPool) -> Motion
     requires ready { pool.old.ready ≡ true }
@@ -281,7 +281,7 @@ fn effect(call: Call, pool: &mut ObjectPool) -> Motion
     }
 }
 
-/// Does a call: the first refusal that applies is the reply, otherwise the effect comes.
+/// Does a call. Where a test isn't passed, the first refusal that applies is the reply, and nothing changes.
 #[tactic(auto, using(crate::proofs::Allowed::refused_step, crate::proofs::Allowed::allowed_step, crate::proofs::Allowed::all_passed))]
 pub fn act(call: Call, pool: &mut ObjectPool) -> Motion
     requires ready { pool.old.ready ≡ true }

@@ -16,7 +16,7 @@ use tree_specs::Test::{
 };
 use tree_specs::{Kind, Mark, Obj, Owner, ROW_LIMIT, Refusal, Row, SIZE_LIMIT, Test};
 
-/// An object is below the greatest size.
+/// Refuses a size that isn't below the greatest one.
 pub fn check_size(size: u64) -> Result<(), Refusal>
     ensures first { result ≡ checked (small size) }
     ensures small { IsOk result → size < size_limit }
@@ -27,7 +27,7 @@ pub fn check_size(size: u64) -> Result<(), Refusal>
     Ok(())
 }
 
-/// An object by its row; a reference is none that a call takes.
+/// Refuses an object by its row: where it has none, and where it is a reference, since no call names a reference.
 #[inline]
 pub fn check_row(x: Obj, row: Option<&Row>) -> Result<(), Refusal>
     ensures { result ≡ checked (object_row x (option_copied row.entry)) }
@@ -41,7 +41,7 @@ pub fn check_row(x: Obj, row: Option<&Row>) -> Result<(), Refusal>
     }
 }
 
-/// An owner is the root or an object.
+/// Refuses an owner that is neither the root nor an object that a call may name.
 #[inline(always)]
 pub fn check_owner(o: Owner, pool: &ObjectPool) -> Result<(), Refusal>
     ensures { result ≡ checked (owner pool.now.pool o) }
@@ -103,7 +103,7 @@ fn is_running(x: Obj, objects: &Subject) -> bool
     )
 }
 
-/// Refuses for this reason, where it is so.
+/// Refuses for this reason where `is` holds.
 #[inline]
 fn refuse_if(is: bool, why: Refusal) -> Result<(), Refusal>
     ensures { result ≡ checked (refuse_if is why) }
@@ -114,7 +114,7 @@ fn refuse_if(is: bool, why: Refusal) -> Result<(), Refusal>
     Ok(())
 }
 
-/// An object is of a kind that the call takes.
+/// Refuses an object whose kind isn't one that the call takes.
 #[inline]
 fn check_kind(x: Obj, is: bool) -> Result<(), Refusal>
     ensures { result ≡ checked (refuse_if (not is) (WrongKind x)) }
@@ -122,7 +122,7 @@ fn check_kind(x: Obj, is: bool) -> Result<(), Refusal>
     refuse_if(!is, Refusal::WrongKind(x))
 }
 
-/// Nothing is asked of a descriptor that isn't open.
+/// Refuses a descriptor that isn't open.
 pub fn check_open(fd: u32, pool: &ObjectPool) -> Result<(), Refusal>
     ensures { result ≡ checked (open_one pool.now.pool fd) }
 {
@@ -132,7 +132,7 @@ pub fn check_open(fd: u32, pool: &ObjectPool) -> Result<(), Refusal>
     Err(Refusal::NoSuch(u64::from(fd)))
 }
 
-/// There is one event on a descriptor at most, and none when it is closed.
+/// Refuses a descriptor on which there is an event: a second event and closing are refused alike.
 fn check_unwatched(fd: u32, pool: &ObjectPool) -> Result<(), Refusal>
     ensures { result ≡ checked (unused pool.now.pool fd) }
 {
@@ -142,7 +142,7 @@ fn check_unwatched(fd: u32, pool: &ObjectPool) -> Result<(), Refusal>
     Ok(())
 }
 
-/// Whether there is room for so many rows, and whether there are so many numbers.
+/// Refuses where there is no room for so many more rows, or where there aren't so many numbers left.
 fn check_room(rows: u8, pool: &ObjectPool) -> Result<(), Refusal>
     ensures { result ≡ checked (room pool.now.pool rows) }
 {
@@ -155,7 +155,7 @@ fn check_room(rows: u8, pool: &ObjectPool) -> Result<(), Refusal>
     Ok(())
 }
 
-/// No object comes to be inside itself.
+/// Refuses an owner that is the object or inside it, so that no object comes to be inside itself.
 fn check_not_inside(x: Obj, owner: Owner, pool: &ObjectPool) -> Result<(), Refusal>
     ensures { result ≡ checked (apart pool.now.pool x owner) }
 {
@@ -165,7 +165,7 @@ fn check_not_inside(x: Obj, owner: Owner, pool: &ObjectPool) -> Result<(), Refus
     Ok(())
 }
 
-/// An object that has references is held, but for one that is the root's and has exactly one.
+/// Refuses to free an object that has references, but for one that the root owns and that has exactly one.
 fn check_held(x: Obj, pool: &ObjectPool) -> Result<(), Refusal>
     ensures { result ≡ checked (held pool.now.pool x) }
 {
@@ -176,7 +176,7 @@ fn check_held(x: Obj, pool: &ObjectPool) -> Result<(), Refusal>
     Ok(())
 }
 
-/// An owner has an interest in an object where it owns it, or a reference to it.
+/// Refuses an owner that neither owns the object nor has a reference to it.
 fn check_interested(o: Owner, x: Obj, pool: &ObjectPool) -> Result<(), Refusal>
     ensures { result ≡ checked (interested pool.now.pool o x) }
 {
@@ -189,7 +189,8 @@ fn check_interested(o: Owner, x: Obj, pool: &ObjectPool) -> Result<(), Refusal>
     })
 }
 
-/// Its owner gives an object away, or one that has a reference to it gives this away.
+/// Refuses that an owner gives an object, or its reference to it, to another owner: where it owns the object and the
+/// other owner is inside this, and where it has neither the object nor a reference to it.
 fn check_given(from: Owner, to: Owner, x: Obj, pool: &ObjectPool) -> Result<(), Refusal>
     ensures { result ≡ checked (given_by pool.now.pool from to x) }
 {
@@ -199,7 +200,7 @@ fn check_given(from: Owner, to: Owner, x: Obj, pool: &ObjectPool) -> Result<(), 
     check_interested(from, x, pool)
 }
 
-/// An object to which there is a reference keeps its size.
+/// Refuses another size for an object to which there are references.
 fn check_unreferenced(x: Obj, pool: &ObjectPool) -> Result<(), Refusal>
     ensures { result ≡ checked (unreferenced pool.now.pool x) }
 {
@@ -209,7 +210,7 @@ fn check_unreferenced(x: Obj, pool: &ObjectPool) -> Result<(), Refusal>
     Ok(())
 }
 
-/// Where an object grows, the growth fits.
+/// Refuses a size by which the object would grow more than the limits leave room for.
 fn check_growing(x: Obj, size: u64, objects: &Subject) -> Result<(), Refusal>
     ensures { result ≡ checked (growing objects.now x size) }
 {

@@ -1,3 +1,4 @@
+//! Why an answer is not taken.
 ghost use Rattle.std.specs.Prelude.{◌≡◌};
 ghost use Rattle.host_core.specs.declared.fault.OfferFault.TheVariants as faults;
 

@@ -1,3 +1,12 @@
+//! `Host`: objects, their frees and an event loop as one value, with no input or output of its own. Whoever uses it
+//! gives it calls and answers (`call`, `offer`), and takes from it events (`next`) and the question that is open
+//! (`question`).
+//!
+//! Contracts see a `View`: the works that are open, the innermost first, over a pool of objects. From these follow the
+//! open question and the story still to come (`rest_of`): an event that `next` gives is the first item of that story.
+//!
+//! Read on in `offered.rt` (an answer is taken), `calls.rt` and `refusals.rt` (a call is done or refused), and
+//! `works.rt` (the steps up to the next event or question).
 ghost use Rattle.object_pool.specs.Requests.{count_unreceived};
 ghost use Rattle.requests.specs.Register.{AreInOrder};
 ghost use Rattle.host_core.specs.Hosts.{IsSettled, Tells};
@@ -24,8 +33,8 @@ use std::alloc::Global;
 use std::marker::Model;
 use tree_specs::{Ask, Call, Event, Input, Kind, Memory, Obj, Owner, Reply, Want};
 
-/// Takes the memory for all that comes up to the next question: each request that wasn't received and each queue may want two
-/// places, and what is at work four. If memory runs out, the works and the objects are as they were.
+/// Takes the memory for all that comes up to the next question: each request that wasn't received and each queue may
+/// need two places, and what is at work four. If memory runs out, the works and the objects are as they were.
 fn make_room(parts: &mut Parts) -> Result<(), Memory>
     ensures waiting { parts.new.waiting.items ≡ parts.old.waiting.items }
     ensures kept { vec_capacity parts.old.waiting ≤ vec_capacity parts.new.waiting }
@@ -43,7 +52,7 @@ fn make_room(parts: &mut Parts) -> Result<(), Memory>
     parts.objects.reserve()
 }
 
-/// The event that comes next of the open frees, which is told now.
+/// Tells the event that comes next of the open frees, if there is one.
 #[inline(always)]
 fn tell_free(objects: &mut ObjectPool) -> Option<Event>
     requires { IsSettled Active.Freeing objects.old }
@@ -158,8 +167,8 @@ impl Host {
         self.parts.objects.is_open(fd)
     }
 
-    /// The descriptors that are watched for something, and what for, in the order in which a turn looks at them, in place of
-    /// what was there. If memory runs out, nothing is given.
+    /// Gives the descriptors that are watched for something, and what for, in the order in which a turn looks at them,
+    /// in place of what was in `out`. If memory runs out, nothing is given.
     pub fn wants(&self, out: &mut Vec<Want>) -> Result<(), Memory>
         ensures wants { OnOk result (out.new.items ≡ wanted_of self.now.pool.ring) }
         ensures nothing { OnErr result (out.new.items ≡ []) }
@@ -213,8 +222,8 @@ impl Host {
         self.active.is_quiet()
     }
 
-    /// The next event, which is told now and not again. None exactly where a question is open, and then
-    /// nothing changes. It takes no memory.
+    /// Gives the next event, which is told now and not again. None exactly where a question is open, and then nothing
+    /// changes. It takes no memory.
     pub fn next(&mut self) -> Option<Event>
         ensures { NextLaw result self.old self.new }
     {
@@ -233,8 +242,8 @@ impl Host {
         }
     }
 
-    /// Whether an answer may be given: NotAsked comes exactly where no question is open or the open one takes no such answer, and
-    /// Taken exactly where the descriptor that was accepted is open already.
+    /// Refuses an answer that may not be given: NotAsked comes exactly where no question is open or the open one takes
+    /// no such answer, and Taken exactly where the descriptor that was accepted is open already.
     fn check(&self, input: &Input) -> Result<(), OfferFault>
         ensures fits { OnOk result (misfit (question_of self.now) input.now ≡ None) }
         ensures unopened { OnOk result (taken_in self.now.pool input.now ≡ None) }
@@ -251,7 +260,7 @@ impl Host {
         Ok(())
     }
 
-    /// The answer is taken. All memory up to the next question is taken first, and where it runs out the host is as it was.
+    /// Takes an answer. All memory up to the next question is taken first, and where it runs out the host is as it was.
     fn take(&mut self, input: Input) -> Result<(), Memory>
         requires sound { IsTrue (is_sound input) }
         requires fits { misfit (question_of self.old) input ≡ None }
@@ -270,9 +279,9 @@ impl Host {
         Ok(())
     }
 
-    /// Gives the answer to the open question. All memory up to the next question is taken first, and after a
-    /// fault the host is as it was; the answer is dropped then. NotAsked comes exactly where no question is
-    /// open or the open one takes no such answer, and Taken exactly where the descriptor that was accepted is open already.
+    /// Gives the answer to the open question. All memory up to the next question is taken first, and after a fault the
+    /// host is as it was; the answer is dropped then. NotAsked comes exactly where no question is open or the open one
+    /// takes no such answer, and Taken exactly where the descriptor that was accepted is open already.
     pub fn offer(&mut self, input: Input) -> Result<(), OfferFault>
         requires { IsTrue (is_sound input) }
         ensures ok { OnOk result (TakesAnswer self.old input self.new) }
@@ -287,9 +296,10 @@ impl Host {
         Ok(())
     }
 
-    /// The host's own caller, who is asked, does a call. Gives the reply where it comes at once, and then the caller is asked
-    /// again; otherwise `next` gives what comes. It is the same as to offer the call and to take the reply, for less. All memory
-    /// up to the next question is taken first, and where it runs out the host is as it was.
+    /// Does a call for the host's own caller, which is asked for one. Gives the reply where it comes at once, and then
+    /// the caller is asked again; otherwise `next` gives what comes. It is the same as to offer the call and to take
+    /// the reply, for less. All memory up to the next question is taken first, and where it runs out the host is as it
+    /// was.
     pub fn call(&mut self, call: Call) -> Result<Option<Reply>, Memory>
         requires asked { question_of self.old ≡ Some Quiet }
         requires sound { IsTrue (is_sound_call call) }

@@ -1,3 +1,4 @@
+//! How a call begins: it is done, or what its caller waits for begins.
 use crate::short_reply::ShortReply;
 use tree_specs::{Ask, Errand, Notice, Obj, Owner};
 

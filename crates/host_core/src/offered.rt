@@ -35,7 +35,7 @@ use object_pool::ObjectPool;
 use std::mem;
 use tree_specs::{Act, Ask, Call, Input, Refusal, TurnFrame};
 
-/// A turn begins for the host's own caller. A routine is refused one, since it may run in a turn itself.
+/// Begins a turn for the host's own caller. A routine is refused one, since it may run in a turn itself.
 fn turn(ask: Ask) -> Step
     ensures step { (p : PoolData) → step_of result p ≡ move_of ask Motion.Turns p }
     ensures busy { IsBusy result }
@@ -102,7 +102,7 @@ fn turn_given(frame: TurnFrame, input: &Input, objects: &ObjectPool) -> TurnFram
     }
 }
 
-/// What goes on with an answer that no caller gives: a turn, or a call that asked the outside.
+/// Goes on with an answer that no caller gives: in a turn, or in a call that asked the outside.
 fn answered(now: Active, input: Input, parts: &mut Parts) -> Active
     requires taken { MayTake now input parts.old }
     requires outside { IsActing input → ⊥ }
@@ -121,8 +121,8 @@ fn answered(now: Active, input: Input, parts: &mut Parts) -> Active
     }
 }
 
-/// The reply to the call of the caller that was asked comes next. The caller stays where it is: moving one costs more than most
-/// calls do.
+/// Makes the reply come next to the caller that was asked. The caller stays where it is: moving one costs more than
+/// most calls do.
 fn reply_on(now: &mut Active, reply: ShortReply)
     requires { IsSome (caller_asked now.old) }
     ensures { (q : AskData) → caller_asked now.old ≡ Some q → active_frame now.new ≡ frames.Call (telling q reply) }
@@ -133,7 +133,7 @@ fn reply_on(now: &mut Active, reply: ShortReply)
     }
 }
 
-/// The question of the caller that was asked, which is taken out.
+/// Takes out the question of the caller that was asked. What stays in its place is to be written over.
 fn take_ask(now: &mut Active) -> Ask
     requires { IsSome (caller_asked now.old) }
     ensures { caller_asked now.old ≡ Some result }
@@ -144,7 +144,7 @@ fn take_ask(now: &mut Active) -> Ask
     }
 }
 
-/// What a call does first is gone on with, up to the next event or question.
+/// Goes on with what a call does first, up to the next event or question.
 #[inline(always)]
 fn begin_on(now: &mut Active, motion: Motion, parts: &mut Parts)
     requires asked { IsSome (caller_asked now.old) }
@@ -158,8 +158,9 @@ fn begin_on(now: &mut Active, motion: Motion, parts: &mut Parts)
     settle(now, parts);
 }
 
-/// The caller that was asked does a call, up to the next event or question. Where this is the reply it is given, and the caller
-/// stands where it was asked: to put the reply there, and to take it out again, costs more than many calls do.
+/// Does a call for the caller that was asked, up to the next event or question. Where this is the reply it is given,
+/// and the caller stands where it was asked: to put the reply there, and to take it out again, costs more than many
+/// calls do.
 #[inline(never)]
 pub fn begin_call(now: &mut Active, call: Call, parts: &mut Parts) -> Option<ShortReply>
     requires asked { IsSome (caller_asked now.old) }
@@ -180,7 +181,7 @@ pub fn begin_call(now: &mut Active, call: Call, parts: &mut Parts) -> Option<Sho
     }
 }
 
-/// The caller that was asked does a call, up to the next event or question. A reply is one.
+/// Does a call for the caller that was asked, up to the next event or question. A reply is one.
 fn call_on(now: &mut Active, call: Call, parts: &mut Parts)
     requires asked { IsSome (caller_asked now.old) }
     requires no_report { report_of call ≡ None }
@@ -196,7 +197,7 @@ fn call_on(now: &mut Active, call: Call, parts: &mut Parts)
     }
 }
 
-/// A routine has returned: whoever waited for it goes on, up to the next event or question.
+/// Goes on with whoever waited for a routine, which has returned, up to the next event or question.
 #[inline(never)]
 fn return_on(now: &mut Active, value: u32, parts: &mut Parts)
     requires fit { Fits parts.old.objects.works (reverse parts.old.waiting.items) }
@@ -210,7 +211,7 @@ fn return_on(now: &mut Active, value: u32, parts: &mut Parts)
     settle(now, parts);
 }
 
-/// An answer that no caller gives is gone on with, up to the next event or question.
+/// Goes on with an answer that no caller gives, up to the next event or question.
 #[inline(never)]
 fn hear(now: &mut Active, input: Input, parts: &mut Parts)
     requires taken { MayTake now.old input parts.old }
@@ -224,7 +225,8 @@ fn hear(now: &mut Active, input: Input, parts: &mut Parts)
     settle(now, parts);
 }
 
-/// Who was asked goes on with the answer, which takes no memory of its own, up to the next event or question.
+/// Lets whoever was asked go on with the answer, up to the next event or question. The answer takes no memory of its
+/// own: it is neither a report nor bytes.
 pub fn answer_on(now: &mut Active, input: Input, parts: &mut Parts)
     requires { MayTake now.old input parts.old }
     ensures along { TellsSameStory (given_view now.old input parts.old) (host_view now.new parts.new) }

@@ -43,8 +43,8 @@ pub fn takes(ask: &Ask, input: &Input) -> bool
     }
 }
 
-/// The outside has answered, with what takes no memory: it is the reply to the call that asked. A descriptor that was accepted
-/// is open from then on.
+/// Hears an answer of the outside that takes no memory, and gives the reply to the call that asked. A descriptor that
+/// was accepted is open from then on.
 pub fn heard(input: Input, objects: &mut ObjectPool) -> ShortReply
     requires short { IsShortAnswer input }
     requires room { objects.old.ready ≡ true }
@@ -94,7 +94,7 @@ fn copy_of(alloc: Global, caller: &Ask, bytes: &Octets) -> Result<Option<Reply>,
     Ok(Octets::make(copy).map(Reply::Bytes))
 }
 
-/// These bytes were read: the reply to the call that asked for them.
+/// The reply to the call that asked for bytes, which were read, with the copy that a routine remembers.
 pub fn made_bytes(alloc: Global, caller: &Ask, bytes: Octets) -> Result<OwnedReply, Memory>
     ensures { IfOk result (λ r. r ≡ record { reply = BytesReply bytes; copy = remembered caller.now (BytesReply bytes) }) }
 {

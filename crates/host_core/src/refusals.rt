@@ -23,7 +23,7 @@ use tree_specs::Test::{
 };
 use tree_specs::{Call, OVERHEAD, Obj, Owner, Refusal, Test};
 
-/// A new object. Its size is looked at first, so that what is wanted for it is a number.
+/// The tests of a new object. The size is tested first, so that adding `OVERHEAD` to it can't overflow.
 #[inline(always)]
 #[tactic(auto, using(crate::proofs::Allowed::refused_first, crate::proofs::Allowed::allowed_first))]
 fn check_new(owner: Owner, size: u64, pool: &ObjectPool) -> Result<(), Refusal>
@@ -39,7 +39,8 @@ fn check_new(owner: Owner, size: u64, pool: &ObjectPool) -> Result<(), Refusal>
     )
 }
 
-/// A new request, with an object of its own. The size of this is looked at first, so that what is wanted is a number.
+/// The tests of a new request, which has an object of its own. The size of this is tested first, so that adding
+/// `OVERHEAD` to it twice can't overflow.
 #[tactic(auto, using(crate::proofs::Allowed::refused_first, crate::proofs::Allowed::allowed_first))]
 fn check_new_request(owner: Owner, size: u64, pool: &ObjectPool) -> Result<(), Refusal>
     ensures { result ≡ checked (refused pool.now.pool (Test.IsSmall size ∷ Test.IsOwner owner ∷ Test.HasRoom 2 ∷ Test.Fits owner (size + overhead + overhead) ∷ [])) }
@@ -54,7 +55,7 @@ fn check_new_request(owner: Owner, size: u64, pool: &ObjectPool) -> Result<(), R
     )
 }
 
-/// The end time of a request.
+/// The tests of setting the end time of a request.
 #[tactic(auto, using(crate::proofs::Allowed::refused_two, crate::proofs::Allowed::allowed_two))]
 fn check_endtime(x: Obj, pool: &ObjectPool) -> Result<(), Refusal>
     ensures { result ≡ checked (refused pool.now.pool (Test.IsObject x ∷ Test.IsRequest x ∷ Test.IsInProgress x ∷ Test.HasNumber ∷ [])) }
@@ -64,7 +65,7 @@ fn check_endtime(x: Obj, pool: &ObjectPool) -> Result<(), Refusal>
     check_two(IsInProgress(x), HasNumber, &objects)
 }
 
-/// What is asked of an object, once it is there: two more tests.
+/// Tests that an object is there, and two more tests of it.
 #[inline(always)]
 fn check_object(x: Obj, second: Test, third: Test, pool: &ObjectPool) -> Result<(), Refusal>
     ensures { result ≡ checked (refused pool.now.pool (Test.IsObject x ∷ second ∷ third ∷ [])) }
@@ -72,7 +73,7 @@ fn check_object(x: Obj, second: Test, third: Test, pool: &ObjectPool) -> Result<
     check_three(IsObject(x), second, third, &Subject::object(x, pool))
 }
 
-/// An object is put below an owner.
+/// The tests of putting an object below an owner.
 #[tactic(auto, using(crate::proofs::Allowed::refused_three, crate::proofs::Allowed::allowed_three))]
 fn check_placing(owner: Owner, x: Obj, pool: &ObjectPool) -> Result<(), Refusal>
     ensures { result ≡ checked (refused pool.now.pool (Test.IsObject x ∷ Test.IsMovable x ∷ Test.IsOwner owner ∷ Test.IsNotDying x ∷ Test.IsNotInside x owner ∷ [])) }
@@ -82,7 +83,7 @@ fn check_placing(owner: Owner, x: Obj, pool: &ObjectPool) -> Result<(), Refusal>
     check_two(IsNotDying(x), IsNotInside(x, owner), &objects)
 }
 
-/// An object, or a reference to it, that goes from one owner to another.
+/// The tests of giving an object, or a reference to it, from one owner to another.
 #[tactic(auto, using(crate::proofs::Allowed::refused_three, crate::proofs::Allowed::allowed_three))]
 fn check_reparent(from: Owner, to: Owner, x: Obj, pool: &ObjectPool) -> Result<(), Refusal>
     ensures { result ≡ checked (refusals pool.now.pool (ReparentOf from to x)) }
@@ -92,7 +93,7 @@ fn check_reparent(from: Owner, to: Owner, x: Obj, pool: &ObjectPool) -> Result<(
     check_three(IsOwner(to), IsNotDying(x), MayGive(from, to, x), &objects)
 }
 
-/// A new reference to an object.
+/// The tests of a new reference to an object.
 #[tactic(auto, using(crate::proofs::Allowed::refused_three, crate::proofs::Allowed::allowed_three))]
 fn check_reference(owner: Owner, x: Obj, pool: &ObjectPool) -> Result<(), Refusal>
     ensures { result ≡ checked (refusals pool.now.pool (ReferenceOf owner x)) }
@@ -102,7 +103,7 @@ fn check_reference(owner: Owner, x: Obj, pool: &ObjectPool) -> Result<(), Refusa
     check_three(IsNotRunning(x), IsNotDying(x), HasRoom(1), &objects)
 }
 
-/// Another size of an object.
+/// The tests of giving an object another size.
 #[tactic(auto, using(crate::proofs::Allowed::refused_three, crate::proofs::Allowed::allowed_three))]
 fn check_resize(x: Obj, size: u64, pool: &ObjectPool) -> Result<(), Refusal>
     ensures { result ≡ checked (refusals pool.now.pool (ResizeOf x size)) }
@@ -112,7 +113,7 @@ fn check_resize(x: Obj, size: u64, pool: &ObjectPool) -> Result<(), Refusal>
     check_three(IsUnreferenced(x), IsNotDying(x), MayGrow(x, size), &objects)
 }
 
-/// An event on a descriptor below an owner.
+/// The tests of a new event on a descriptor below an owner.
 #[tactic(auto, using(crate::proofs::Allowed::refused_three, crate::proofs::Allowed::allowed_three))]
 fn check_watching(owner: Owner, fd: u32, pool: &ObjectPool) -> Result<(), Refusal>
     ensures { result ≡ checked (refused pool.now.pool (Test.IsOwner owner ∷ Test.IsOpen fd ∷ Test.IsUnwatched fd ∷ Test.HasRoom 1 ∷ Test.Fits owner overhead ∷ [])) }
@@ -122,14 +123,14 @@ fn check_watching(owner: Owner, fd: u32, pool: &ObjectPool) -> Result<(), Refusa
     check_two(HasRoom(1), Fits(owner, OVERHEAD), &objects)
 }
 
-/// A queue that isn't being freed.
+/// The tests of starting or stopping a queue, which isn't being freed.
 fn check_lasting_queue(queue: Obj, pool: &ObjectPool) -> Result<(), Refusal>
     ensures { result ≡ checked (refused pool.now.pool (Test.IsObject queue ∷ Test.IsQueue queue ∷ Test.IsNotGoing queue ∷ [])) }
 {
     check_object(queue, IsQueue(queue), IsNotGoing(queue), pool)
 }
 
-/// A request comes into a queue. The tests of the queue come first.
+/// The tests of putting a request into a queue. Those of the queue come first.
 #[tactic(auto, using(crate::proofs::Allowed::refused_three, crate::proofs::Allowed::allowed_three))]
 fn check_enqueue(queue: Obj, x: Obj, pool: &ObjectPool) -> Result<(), Refusal>
     ensures { result ≡ checked (refused pool.now.pool (Test.IsObject queue ∷ Test.IsQueue queue ∷ Test.IsNotGoing queue ∷ Test.IsObject x ∷ Test.IsRequest x ∷ Test.IsNotDying x ∷ Test.HasRoom 1 ∷ Test.Fits (At x) overhead ∷ [])) }
@@ -140,14 +141,14 @@ fn check_enqueue(queue: Obj, x: Obj, pool: &ObjectPool) -> Result<(), Refusal>
     check_two(HasRoom(1), Fits(Owner::Of(x), OVERHEAD), &objects)
 }
 
-/// An object is freed.
+/// The tests of freeing an object.
 pub fn check_free(x: Obj, pool: &ObjectPool) -> Result<(), Refusal>
     ensures { result ≡ checked (refusals pool.now.pool (FreeOf x)) }
 {
     check_known(x, IsUnheld(x), pool)
 }
 
-/// A new object of 96 bytes without its name: an event, or a queue.
+/// The tests of making an event that waits for no descriptor, or a queue: it counts as an object of no size.
 fn check_small(owner: Owner, pool: &ObjectPool) -> Result<(), Refusal>
     ensures { result ≡ checked (refused pool.now.pool (Test.IsOwner owner ∷ Test.HasRoom 1 ∷ Test.Fits owner overhead ∷ [])) }
 {
@@ -159,35 +160,35 @@ fn check_small(owner: Owner, pool: &ObjectPool) -> Result<(), Refusal>
     )
 }
 
-/// What is asked of an object, once it is there: one more test.
+/// The test that an object is there, and one more.
 fn check_known(x: Obj, second: Test, pool: &ObjectPool) -> Result<(), Refusal>
     ensures { result ≡ checked (refused pool.now.pool (Test.IsObject x ∷ second ∷ [])) }
 {
     check_two(IsObject(x), second, &Subject::object(x, pool))
 }
 
-/// An immediate that is to come, or to come no more.
+/// The tests of scheduling an immediate, or of having it come no more.
 fn check_immediate(x: Obj, pool: &ObjectPool) -> Result<(), Refusal>
     ensures { result ≡ checked (refused pool.now.pool (Test.IsObject x ∷ Test.IsImmediate x ∷ Test.IsNotDoomed x ∷ [])) }
 {
     check_object(x, IsImmediate(x), IsNotDoomed(x), pool)
 }
 
-/// An event on a descriptor, of which something is set or told.
+/// The tests of setting or telling something of an event on a descriptor.
 fn check_watcher(x: Obj, pool: &ObjectPool) -> Result<(), Refusal>
     ensures { result ≡ checked (refused pool.now.pool (Test.IsObject x ∷ Test.IsDescriptor x ∷ Test.IsNotDoomed x ∷ [])) }
 {
     check_object(x, IsDescriptor(x), IsNotDoomed(x), pool)
 }
 
-/// A request, in whatever state it is.
+/// The tests of a call on a request in any state.
 fn check_request(x: Obj, pool: &ObjectPool) -> Result<(), Refusal>
     ensures { result ≡ checked (refused pool.now.pool (Test.IsObject x ∷ Test.IsRequest x ∷ [])) }
 {
     check_known(x, IsRequest(x), pool)
 }
 
-/// Whether a call is allowed, and else its first refusal.
+/// Refuses a call by its tests: the first one that isn't passed says why.
 pub fn check(call: &Call, pool: &ObjectPool) -> Result<(), Refusal>
     ensures { result ≡ checked (refusals pool.now.pool call.now) }
 {

@@ -33,7 +33,7 @@ fn told(ask: Ask, reply: OwnedReply) -> Active
     Active::Caller(caller)
 }
 
-/// A report comes next to the caller that was asked.
+/// Makes a report come next to the caller that was asked.
 fn report_on(now: &mut Active, report: OwnedReply)
     requires { IsSome (caller_asked now.old) }
     ensures { (q : AskData) → caller_asked now.old ≡ Some q → active_frame now.new ≡ frames.Call (Telling (remembers q report.copy) report.reply) }
@@ -44,8 +44,8 @@ fn report_on(now: &mut Active, report: OwnedReply)
     }
 }
 
-/// The report that an input wants, which is about this owner, comes next to the caller that was asked. When memory runs out,
-/// nothing has changed.
+/// Makes the report that an input asks for, which is about this owner, and lets it come next to the caller that was
+/// asked. When memory runs out, nothing has changed.
 #[inline(never)]
 pub fn report_for(
     now: &mut Active,
@@ -73,7 +73,7 @@ fn asker(waiting: &Vec<Waiting>) -> &Ask
     }
 }
 
-/// The caller whose call waits for the outside waits no more. Gives its question.
+/// Takes out the question of the caller whose call waits for the outside, and which waits no more.
 fn take_asker(waiting: &mut Vec<Waiting>) -> Ask
     requires { CallsOutside waiting.old.items }
     ensures { waiting.old.items ≡ waiting.new.items ++ Waiting.Turning result ∷ [] }
@@ -84,8 +84,8 @@ fn take_asker(waiting: &mut Vec<Waiting>) -> Ask
     }
 }
 
-/// It was asked for bytes, and these were read: they come next to the caller whose call it was. When memory runs out, nothing
-/// has changed.
+/// Takes the bytes that were read, and lets them come next to the caller whose call asked for them. When memory runs
+/// out, nothing has changed.
 #[inline(never)]
 pub fn read_on(now: &mut Active, input: Input, parts: &mut Parts) -> Result<(), Memory>
     requires bytes { is_bytes input ≡ true }

@@ -36,7 +36,7 @@ fn report_reply(alloc: Global, owner: Owner, pool: &ObjectPool) -> Result<Reply,
     Ok(Reply::Rows(pool.report(alloc, owner)?))
 }
 
-/// The same once more, where a routine is to remember it.
+/// The report once more, where a routine is to remember it. None where the call isn't a routine's.
 fn report_copy(
     alloc: Global,
     input: &Input,
@@ -51,7 +51,7 @@ fn report_copy(
     }
 }
 
-/// The report that an input wants, which is about this owner.
+/// The report that an input asks for, which is about this owner, with the copy that a routine remembers.
 pub fn made_report(
     alloc: Global,
     input: &Input,

@@ -7,7 +7,7 @@ ghost use Rattle.tree_specs.specs.Calls.Refusals.{checked, number, in_progress, 
 use object_pool::ObjectPool;
 use tree_specs::{Obj, Refusal, State};
 
-/// There is a number that no object gets.
+/// Refuses where no number is left for something that is no object.
 pub fn check_number(pool: &ObjectPool) -> Result<(), Refusal>
     ensures { result ≡ checked (number pool.now.pool) }
 {
@@ -17,7 +17,7 @@ pub fn check_number(pool: &ObjectPool) -> Result<(), Refusal>
     Ok(())
 }
 
-/// A request's state is none of those that a call is for.
+/// Refuses a call for the state that its request is in.
 fn refused(x: Obj, state: State) -> Result<(), Refusal>
     ensures { result ≡ Err (BadState x (state_number state)) }
 {
@@ -27,7 +27,7 @@ fn refused(x: Obj, state: State) -> Result<(), Refusal>
     })
 }
 
-/// A request is in progress.
+/// Refuses a request that isn't in progress.
 pub fn check_in_progress(x: Obj, pool: &ObjectPool) -> Result<(), Refusal>
     ensures { result ≡ checked (in_progress pool.now.pool x) }
 {
@@ -37,7 +37,7 @@ pub fn check_in_progress(x: Obj, pool: &ObjectPool) -> Result<(), Refusal>
     }
 }
 
-/// A request is over, and wasn't received.
+/// Refuses a request that is in progress or was received.
 pub fn check_finished(x: Obj, pool: &ObjectPool) -> Result<(), Refusal>
     ensures { result ≡ checked (finished pool.now.pool x) }
 {
@@ -49,7 +49,7 @@ pub fn check_finished(x: Obj, pool: &ObjectPool) -> Result<(), Refusal>
     }
 }
 
-/// A request that is to fail with this number is in progress; with 0 it doesn't fail.
+/// Refuses to let a request fail that isn't in progress. With 0 it doesn't fail, and nothing is refused.
 pub fn check_failing(x: Obj, error: u64, pool: &ObjectPool) -> Result<(), Refusal>
     ensures { result ≡ checked (failing pool.now.pool x error) }
 {

@@ -1,3 +1,4 @@
+//! Replies that take no memory: all but reports and bytes that were read.
 ghost use Rattle.std.specs.Prelude.{◌≡◌};
 ghost use Rattle.host_core.specs.Moves.{reply_of};
 
@@ -16,6 +17,7 @@ pub enum ShortReply {
 }
 
 impl ShortReply {
+    /// The reply as it is told.
     pub fn reply(self) -> Reply
         ensures { result ≡ reply_of self }
     {

@@ -1,3 +1,4 @@
+//! Steps of open works that tell and ask nothing, by what they lead to.
 use crate::active::Active;
 use crate::answer::Answer;
 use crate::waiting::Waiting;

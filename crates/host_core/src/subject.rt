@@ -1,3 +1,4 @@
+//! The objects as the tests of a call see them, with the row that most of these tests look at.
 use object_pool::ObjectPool;
 use std::marker::Model;
 use tree_specs::{Obj, Row};
@@ -26,7 +27,7 @@ impl<'a> Subject<'a> {
     ghost use Rattle.std.specs.Option.{option_copied};
     ghost use Rattle.tree_specs.specs.Tree.Pool.{row_of};
 
-    /// A call that is about no object that is there.
+    /// The objects with no row at hand.
     #[inline]
     pub fn none(pool: &'a ObjectPool) -> Subject<'a>
         ensures { result ≡ pool.now.pool }
@@ -34,7 +35,7 @@ impl<'a> Subject<'a> {
         Subject { pool, known: None }
     }
 
-    /// A call about this object.
+    /// The objects with the row of this one at hand, if there is such an object.
     #[inline]
     pub fn object(x: Obj, pool: &'a ObjectPool) -> Subject<'a>
         ensures { result ≡ pool.now.pool }

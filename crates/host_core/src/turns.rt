@@ -53,8 +53,8 @@ fn comes(what: What, x: Obj, now: u64, errand: Errand, objects: &ObjectPool) -> 
     Step::Calls(work, Waiting::Turn(TurnFrame::Serving { x }))
 }
 
-/// What has come soon is a queue, which triggers its first entry while the turn waits; or it is a request or an event. No
-/// queue is a request.
+/// What has come soon is a queue, which triggers its first entry while the turn waits; or it is a request or an event.
+/// No queue is a request.
 fn comes_soon(x: Obj, objects: &ObjectPool) -> Step
     requires ready { objects.now.ready ≡ true }
     ensures step { step_of result objects.now.pool ≡ soon_step (is_noted objects.now.pool.requests x) x objects.now.pool }
@@ -93,7 +93,7 @@ fn picked(pick: Pick, waited: bool, objects: &ObjectPool) -> Step
     }
 }
 
-/// What comes is busy from now on, and its handler is to be told of; where it has none the turn is over.
+/// Makes what comes busy, and goes on to tell that its handler runs. Where it has none the turn is over.
 fn start(what: What, x: Obj, occasion: Occasion, objects: &mut ObjectPool) -> Step
     ensures step { step_of result objects.new.pool ≡ turn_step (Starting what x occasion) objects.old.pool }
     ensures goes { GoesWell 1 result objects.new }
@@ -112,7 +112,7 @@ fn start(what: What, x: Obj, occasion: Occasion, objects: &mut ObjectPool) -> St
     }
 }
 
-/// The handler of an event has returned: the event is quiet again, and the turn is over, or waits until the event is freed.
+/// Makes an event quiet again, whose handler has returned. The turn is over, or waits until the event is freed.
 fn handled(what: What, x: Obj, objects: &mut ObjectPool) -> Step
     requires live { IsLiveRow objects.old.pool x }
     requires unasked { is_asked objects.old.pool x ≡ false }
@@ -129,7 +129,7 @@ fn handled(what: What, x: Obj, objects: &mut ObjectPool) -> Step
     goes(TurnFrame::Closing { value: 1 })
 }
 
-/// The next step of a turn that tells and asks nothing with it.
+/// Makes the next step of a turn that tells and asks nothing with it.
 #[tactic(auto, using(crate::proofs::Turning::taking_picked, crate::proofs::Turning::timed_picked))]
 pub fn turn_step(frame: TurnFrame, objects: &mut ObjectPool) -> Step
     requires may { MayTurn frame objects.old.pool }

@@ -8,8 +8,8 @@ use tree_specs::{Ask, Obj, TurnFrame};
 /// A work that waits for the one above it.
 #[derive(Drop)]
 pub enum Waiting {
-    /// The open frees: the innermost of them waits for the run of a destructor, until its request was received, or until its
-    /// queue has no entries.
+    /// The open frees: the innermost of them waits for the run of a destructor, until its request was received, or
+    /// until its queue has no entries.
     Freeing,
     /// A caller whose call waits for the freeing of an object, or of its children.
     Awaiting { ask: Ask, x: Obj },

@@ -108,8 +108,8 @@ impl Work {
         }
     }
 
-    /// What is still to do once the work above has answered: after a cleanup the errand goes on, and after any other routine it
-    /// is over.
+    /// What is still to do once the work above has answered: after a cleanup the errand goes on, and after any other
+    /// routine it is over.
     pub fn resumed(self, answer: Answer) -> Work
         ensures { work_frame result ≡ request_resume (work_frame self) (answer_of answer) }
     {

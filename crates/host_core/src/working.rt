@@ -1,5 +1,5 @@
-//! The steps of a request's work: its state is told, its cleanup runs, and whoever waits for it is notified; and those of a
-//! queue's: its first entry is triggered, or its entries are freed before it.
+//! The steps of a request's work: its state is told, its cleanup runs, and whoever waits for it is notified; and those
+//! of a queue's: its first entry is triggered, or its entries are freed before it.
 ghost use Rattle.std.specs.Prelude.{◌≡◌, ◌≤◌, true, Some};
 ghost use Rattle.tree_specs.specs.declared.event.Event.TheVariants.{State as StateOf};
 ghost use Rattle.tree_specs.specs.Events.Requests.{state_number};
@@ -51,7 +51,7 @@ fn over(errand: Errand) -> Step
     })
 }
 
-/// The routine runs that cancels a request, where it has one and wasn't received.
+/// Goes on to the routine that cancels a request, where it has one and wasn't received.
 fn cancel(x: Obj, objects: &ObjectPool) -> Step
     ensures step { step_of result objects.now.pool ≡ request_step (Cancelling x) objects.now.pool }
     ensures goes { GoesWell 1 result objects.now }
@@ -70,7 +70,7 @@ fn cancel(x: Obj, objects: &ObjectPool) -> Step
     }
 }
 
-/// A cleanup runs once for each state.
+/// Goes on to the cleanup of a request, which runs once for each state.
 fn clean(x: Obj, errand: Errand, objects: &mut ObjectPool) -> Step
     requires ready { ErrandReady errand objects.old }
     requires order { AreInOrder objects.old.pool.requests }
@@ -91,7 +91,7 @@ fn clean(x: Obj, errand: Errand, objects: &mut ObjectPool) -> Step
     }
 }
 
-/// An object begins to be freed, or an interest in it to be taken away, while the work of a request waits.
+/// Begins to free an object, or to take an interest in it away, while the work of a request waits.
 fn begins(motion: Motion) -> Step
     requires { IsFreeing motion }
     ensures step { (plan : PlanData) (errand : ErrandData) (p : PoolData) → IsReleaseBy plan (Some motion) → step_of result p ≡ release_object plan errand p }
@@ -107,7 +107,7 @@ fn begins(motion: Motion) -> Step
     }
 }
 
-/// What a request was made with is freed as a call frees it, and what comes of this isn't told.
+/// Frees what a request was made with, as a call does. What comes of this isn't told.
 fn let_go(child: Obj, objects: &ObjectPool) -> Step
     requires ready { MayBeginFree objects.now }
     ensures step { step_of result objects.now.pool ≡ release_object (planned objects.now.pool (FreeOf child)) Receive objects.now.pool }
@@ -120,7 +120,7 @@ fn let_go(child: Obj, objects: &ObjectPool) -> Step
     }
 }
 
-/// After its cleanup nothing more is done for a request that is no more.
+/// Goes on after the cleanup of a request. Nothing more is done for one that is no more.
 fn cleaned(x: Obj, errand: Errand, objects: &ObjectPool) -> Step
     requires ready { ErrandReady errand objects.now }
     ensures step { step_of result objects.now.pool ≡ request_step (Cleaned x errand) objects.now.pool }
@@ -136,7 +136,8 @@ fn cleaned(x: Obj, errand: Errand, objects: &ObjectPool) -> Step
     }
 }
 
-/// A request whose callback is deferred comes soon; otherwise its callback runs, where it has one.
+/// Notifies whoever waits for a request: its callback runs, where it has one. Where the callback is deferred, the
+/// request comes soon.
 fn notify(x: Obj, errand: Errand, objects: &mut ObjectPool) -> Step
     requires ready { objects.old.ready ≡ true }
     requires order { AreInOrder objects.old.pool.requests }
@@ -157,7 +158,7 @@ fn notify(x: Obj, errand: Errand, objects: &mut ObjectPool) -> Step
     }
 }
 
-/// The first entry of a queue that is to be freed is freed before it. Once there is none this is over.
+/// Frees the first entry of a queue that is to be freed itself. Once there is none this is over.
 fn vacate(queue: Obj, objects: &mut ObjectPool) -> Step
     requires ready { MayBeginFree objects.old }
     ensures step { step_of result objects.new.pool ≡ request_step (Vacating queue) objects.old.pool }
@@ -175,7 +176,7 @@ fn vacate(queue: Obj, objects: &mut ObjectPool) -> Step
     }
 }
 
-/// The next step of a request's or a queue's work that tells nothing with it.
+/// Makes the next step of a request's or a queue's work that tells nothing with it.
 pub fn work_step(work: Work, objects: &mut ObjectPool) -> Step
     requires may { MayWork work objects.old }
     requires ready { WorkReady work objects.old }
@@ -185,7 +186,7 @@ pub fn work_step(work: Work, objects: &mut ObjectPool) -> Step
     ensures rest { objects.new ≡ record objects.old { pool = objects.new.pool; ready = objects.new.ready } }
     ensures requests { count_unreceived objects.new.pool.requests ≤ count_unreceived objects.old.pool.requests }
 {
-    // All that is wanted of `count_requests` is its contract: the notes stand in their order.
+    // Read for the prover: the contract of `count_requests` says that the notes stand in their order.
     let _requests = objects.count_requests();
     match work {
         Work::Receiving { .. } => over(Errand::Receive),
@@ -210,7 +211,7 @@ pub fn work_step(work: Work, objects: &mut ObjectPool) -> Step
     }
 }
 
-/// A request goes to a state, which is told.
+/// The event that a request goes to a state.
 fn tell_state(x: Obj, state: State) -> Event
     ensures { result ≡ StateOf x (state_number state) }
 {
@@ -220,8 +221,8 @@ fn tell_state(x: Obj, state: State) -> Event
     }
 }
 
-/// The trigger of a queue's first entry runs for its request, which is told. None where no entry waits for it, and then nothing
-/// changes.
+/// Tells that the trigger of a queue's first entry runs for its request. None where no entry waits for its trigger, and
+/// then nothing changes.
 fn tell_trigger(queue: Obj, work: &mut Work, objects: &mut ObjectPool) -> Option<Event>
     requires { work.old ≡ TriggeringWork queue }
     ensures event { result ≡ work_tells work.old objects.old.pool }
@@ -243,14 +244,15 @@ fn tell_trigger(queue: Obj, work: &mut Work, objects: &mut ObjectPool) -> Option
     })
 }
 
-/// Tells what comes next of a request's or a queue's work, which goes on after it. None where it tells nothing, and then nothing changes.
+/// Tells what comes next of a request's or a queue's work, which goes on after it. None where it tells nothing, and
+/// then nothing changes.
 pub fn tell_work(work: &mut Work, objects: &mut ObjectPool) -> Option<Event>
     ensures event { result ≡ work_tells work.old objects.old.pool }
     ensures work { work.new ≡ work_told work.old objects.old.pool }
     ensures pool { objects.new ≡ record objects.old { pool = pool_told work.old objects.old.pool } }
     ensures order { AreInOrder objects.old.pool.requests }
 {
-    // All that is wanted of `count_requests` is its contract: the notes stand in their order.
+    // Read for the prover: the contract of `count_requests` says that the notes stand in their order.
     let _requests = objects.count_requests();
     match *work {
         Work::Finishing { x, state } => {

@@ -20,7 +20,7 @@ use crate::working::work_step;
 use object_pool::{ObjectPool, Progress};
 use tree_specs::FreeStep;
 
-/// The open frees have waited for this: the innermost goes on, and is at work.
+/// Gives the open frees the answer that they have waited for. The innermost one goes on, and is at work.
 #[tactic(auto, using(crate::proofs::Resuming::returned_begins, crate::proofs::Resuming::prepared_begins))]
 fn free_again(answer: Answer, objects: &mut ObjectPool)
     requires { AnswersTo answer Waiting.Freeing objects.old }
@@ -36,7 +36,7 @@ fn free_again(answer: Answer, objects: &mut ObjectPool)
     }
 }
 
-/// The innermost work is over. The one below it goes on with its answer.
+/// Ends the innermost work. The one below it goes on with its answer, and is given.
 #[inline(always)]
 pub fn end(answer: Answer, parts: &mut Parts) -> Active
     requires { MayEnd answer parts.old }
@@ -60,7 +60,7 @@ pub fn end(answer: Answer, parts: &mut Parts) -> Active
     }
 }
 
-/// What a step leads to is at work from then on.
+/// Carries out what a step leads to, and gives what is at work from then on.
 #[inline(always)]
 pub fn go_on(step: Step, parts: &mut Parts) -> Active
     requires { MayGoOn step parts.old }
@@ -102,7 +102,8 @@ fn stays_at_work(step: FreeStep) -> bool
     )
 }
 
-/// The innermost free was at work, and is no more after this step: what it waits for is, or where it is over the work below it.
+/// Leaves the innermost free after a step by which it is at work no more. Gives what it waits for, or the work below it
+/// where it is over.
 #[inline(always)]
 fn leave_free(step: FreeStep, parts: &mut Parts) -> Active
     requires leaves { is_news step ≡ false }
@@ -128,7 +129,7 @@ fn leave_free(step: FreeStep, parts: &mut Parts) -> Active
     }
 }
 
-/// The next step of the open frees where it tells no event.
+/// Makes the next step of the open frees, which tells no event.
 #[inline(always)]
 fn step_quietly(now: &mut Active, parts: &mut Parts)
     requires freeing { now.old ≡ Active.Freeing }
@@ -144,8 +145,8 @@ fn step_quietly(now: &mut Active, parts: &mut Parts)
     *now = leave_free(step, parts);
 }
 
-/// What comes next of the open frees where this tells no event. That the innermost one is over is looked at first: it wants no
-/// step.
+/// Goes on with the open frees where this tells no event. That the innermost one is over is looked at first: it needs
+/// no step.
 #[inline(always)]
 fn quiet_free(now: &mut Active, parts: &mut Parts)
     requires freeing { now.old ≡ Active.Freeing }
@@ -160,7 +161,8 @@ fn quiet_free(now: &mut Active, parts: &mut Parts)
     }
 }
 
-/// What a turn, or the work of a request or of a queue, does next where this tells and asks nothing.
+/// Makes the step that comes next of a turn, or of the work of a request or of a queue, where this tells and asks
+/// nothing.
 fn quiet_move(active: &Active, parts: &mut Parts) -> Step
     requires ready { IsBetweenSteps active.now parts.old }
     requires quiet { speaking_view (host_view active.now parts.old) ≡ false }
@@ -174,7 +176,7 @@ fn quiet_move(active: &Active, parts: &mut Parts) -> Step
     }
 }
 
-/// What comes next of what is no free where this tells and asks nothing.
+/// Goes on with what is no free, where this tells and asks nothing.
 #[inline(never)]
 fn quiet_work(now: &mut Active, parts: &mut Parts)
     requires ready { IsBetweenSteps now.old parts.old }
@@ -187,7 +189,7 @@ fn quiet_work(now: &mut Active, parts: &mut Parts)
     *now = go_on(step, parts);
 }
 
-/// A step that tells and asks nothing.
+/// Makes a step that tells and asks nothing.
 fn quiet_step(now: &mut Active, parts: &mut Parts)
     requires ready { IsBetweenSteps now.old parts.old }
     requires quiet { speaking_view (host_view now.old parts.old) ≡ false }
@@ -200,7 +202,7 @@ fn quiet_step(now: &mut Active, parts: &mut Parts)
     }
 }
 
-/// The steps that tell nothing, up to the next event or question, of what isn't a caller.
+/// Makes the steps that tell nothing, up to the next event or question, of what isn't a caller.
 #[inline(never)]
 fn settle_works(now: &mut Active, parts: &mut Parts)
     requires { IsBetweenSteps now.old parts.old }
@@ -213,7 +215,8 @@ fn settle_works(now: &mut Active, parts: &mut Parts)
     }
 }
 
-/// The steps that tell nothing, up to the next event or question. A caller makes none, and most calls come back to one.
+/// Makes the steps that tell nothing, up to the next event or question. A caller makes none, and most calls come back
+/// to one.
 #[inline]
 pub fn settle(now: &mut Active, parts: &mut Parts)
     requires { IsBetweenSteps now.old parts.old }

@@ -1,3 +1,4 @@
+//! `Soon`: the objects that come soon, in their order. One can leave this order wherever it stands.
 ghost use Rattle.std.specs.Prelude.{◌≡◌};
 
 use crate::side::set_link;
@@ -7,9 +8,9 @@ use std::alloc::Global;
 use std::marker::Model;
 use tree_specs::{Memory, Obj};
 
-/// The objects that come soon, first in first out: immediates that are scheduled, requests whose callback is posted, and
-/// queues that are to look at their first entry. Contracts see the list of them, each once, and spare: so many can be
-/// added without taking memory.
+/// The objects that come soon, first in first out: immediates that are scheduled, requests whose callback is posted,
+/// and queues that are to look at their first entry. Contracts see the list of them, each once, and spare: so many can
+/// be added without taking memory. Only `reserve` takes memory.
 #[derive(Drop)]
 pub struct Soon {
     /// The neighbours of each, under its number.
@@ -38,7 +39,7 @@ impl Soon {
     ghost use Rattle.immediates.specs.Linked.{numbered};
     ghost use Rattle.immediates.specs.Waiting.{AreOnce};
 
-    /// Nothing comes soon. It takes no memory.
+    /// Nothing comes soon.
     pub fn new(alloc: Global) -> Soon
         ensures { result.objects ≡ [] }
     {
@@ -49,7 +50,7 @@ impl Soon {
         }
     }
 
-    /// Takes memory for so many more objects. After want of memory they are as they were.
+    /// Takes memory for so many more objects. If memory runs out, they are as they were.
     pub fn reserve(&mut self, more: usize) -> Result<(), Memory>
         ensures objects { self.new.objects ≡ self.old.objects }
         ensures spare { OnOk result (more ≤ self.new.spare) }
@@ -58,7 +59,7 @@ impl Soon {
         Ok(self.sides.reserve(more)?)
     }
 
-    // One that doesn't wait comes after all others.
+    /// Puts one that doesn't wait behind all others.
     fn join(&mut self, x: u64)
         requires room { 0 < self.old.spare }
         requires absent { waits self.old.objects (numbered x) ≡ false }
@@ -72,7 +73,7 @@ impl Soon {
         self.sides.add(x, Sides { newer: None, older });
     }
 
-    /// An object is to come soon, after all others. One that waits already goes to the end. It takes no memory.
+    /// Puts an object behind all others that come soon. One that waits already goes to the end.
     pub fn push(&mut self, x: Obj)
         requires room { 0 < self.old.spare }
         ensures objects { self.new.objects ≡ scheduled self.old.objects x }
@@ -82,7 +83,7 @@ impl Soon {
         self.join(x.0);
     }
 
-    /// An object doesn't come any more. Answers whether it waited.
+    /// Removes an object, which doesn't come any more. Answers whether it waited.
     pub fn remove(&mut self, x: Obj) -> bool
         ensures result { result ≡ waits self.old.objects x }
         ensures objects { self.new.objects ≡ unscheduled self.old.objects x }
@@ -98,7 +99,7 @@ impl Soon {
         true
     }
 
-    // The one whose turn it is. None exactly where none waits.
+    /// The one whose turn it is. None exactly where none waits.
     fn first(&self) -> Option<Obj>
         ensures first { result ≡ slice_get self.now.objects 0 }
         ensures once { AreOnce self.now.objects }

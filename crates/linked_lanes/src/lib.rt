@@ -1,5 +1,5 @@
 //! Lanes: distinct numbers in an order, newest first, kept by the neighbours that are noted beside each of them.
-//! Whoever keeps a lane keeps the neighbours and the head, and the last where it is wanted; this crate says what they
+//! Whoever keeps a lane keeps the neighbours and the head, and the last where it is needed; this crate says what they
 //! are, and proves what leaving the lane and joining it at its front do to them.
 #![tactic(auto)]
 
@@ -23,7 +23,7 @@ pub enum Link {
 }
 
 impl Sides {
-    /// Another neighbour is noted.
+    /// Notes another neighbour.
     pub fn note(&mut self, link: Link)
         ensures { self.new ≡ noted_in link self.old }
     {

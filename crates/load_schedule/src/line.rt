@@ -8,8 +8,8 @@ use std::marker::Model;
 /// Bytes enough for the longest line, which has two numbers of ten digits and 17 bytes beside them.
 const ROOM: usize = 40;
 
-/// A line with its LF, or what is left of one. It is made from its end, as the digits of a number are. Contracts see its
-/// bytes.
+/// A line with its LF, or what is left of one. It is made from its end, as the digits of a number are. Contracts see
+/// its bytes.
 #[derive(Drop)]
 pub(crate) struct Line {
     bytes: [u8; ROOM],

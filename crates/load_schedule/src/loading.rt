@@ -36,8 +36,8 @@ fn tally(alloc: Global, number: u32, count: u32) -> Option<Tally>
 ///
 /// # Errors
 ///
-/// `Write` only where a put failed, which the sink counted, and `Memory` where there was none. Then a prefix of the five
-/// lines was put.
+/// `Write` only where a put failed, which the sink counted, and `Memory` where there was none. Then a prefix of the
+/// five lines was put.
 pub fn load<K: Sink>(alloc: Global, number: u32, count: u32, out: &mut K) -> Result<(), PutError>
     requires { count + 2 ≤ lines_limit }
     ensures lines { PutsFiveLines number count (K.held out.old) (K.held out.new) result }

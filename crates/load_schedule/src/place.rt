@@ -7,7 +7,8 @@ ghost use Rattle.tree_specs.specs.Texts.Load.{next_state, drawn, kind, second_dr
 use crate::line::Line;
 use std::marker::Model;
 
-/// Where a schedule stands between two calls. Contracts see the state of its draws, and how many lines with `new` there are.
+/// Where a schedule stands between two calls. Contracts see the state of its draws, and how many lines with `new` there
+/// are.
 #[derive(Drop)]
 pub(crate) struct Place {
     state: u32,
@@ -43,7 +44,7 @@ fn state_after(state: u32) -> u32
 }
 
 impl Place {
-    /// Before the first call of the schedule that is made from this number.
+    /// The place before the first call of the schedule that is made from this number.
     pub(crate) fn new(number: u32) -> Place
         ensures { result ≡ first_place number }
     {
@@ -53,7 +54,7 @@ impl Place {
         }
     }
 
-    /// The next draw, below 32,768.
+    /// Makes the next draw, below 32,768.
     fn draw(&mut self) -> u32
         ensures value { result ≡ drawn (next_state self.old.state) }
         ensures state { self.new.state ≡ next_state self.old.state }
@@ -64,7 +65,7 @@ impl Place {
         self.state / 65_536
     }
 
-    /// The draws of the next call.
+    /// Makes the draws of the next call.
     fn draws(&mut self) -> Draws
         requires { self.old.made < u32.MAX }
         ensures kind { result.kind ≡ kind self.old }

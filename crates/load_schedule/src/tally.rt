@@ -93,8 +93,8 @@ fn five_lines(alloc: Global, count: u32, counts: Counts, last: &[u8]) -> Result<
     Ok(text)
 }
 
-/// A sink that keeps of the lines that are put to it how many there were of some kinds, and the last reply. Contracts see
-/// the bytes that were put; of the lines that have ended these exist in proofs alone, as `ended`.
+/// A sink that keeps of the lines that are put to it how many there were of some kinds, and the last reply. Contracts
+/// see the bytes that were put; of the lines that have ended these exist in proofs alone, as `ended`.
 #[derive(Drop)]
 pub struct Tally {
     counts: Counts,
@@ -102,7 +102,7 @@ pub struct Tally {
     last: Vec<u8>,
     /// The present line so far.
     line: Vec<u8>,
-    /// The bytes of the lines that have ended. It takes no memory.
+    /// The bytes of the lines that have ended. Only proofs read it, and it takes no memory.
     ended: Log<u8, ()>,
 }
 
@@ -199,7 +199,7 @@ impl Sink for Tally {
     ghost tells = { λ t told. refl };
 
     /// Takes all lines that end in these bytes; where a line has begun before or none ends, up to the next LF and with
-    /// it. It tells no room, so that it may want memory for a reply and for a line that has begun.
+    /// it. It tells no room, so it may need memory for a reply and for a line that has begun.
     fn put(&mut self, bytes: &[u8]) -> Result<Put, Memory>
         requires { 0 < length bytes.now }
         ensures bytes { PutsTo (Some self.old) (Some self.new) result bytes.now }

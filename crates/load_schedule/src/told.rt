@@ -34,14 +34,14 @@ pub(crate) struct Counts {
 }
 
 impl Counts {
-    /// Of no lines.
+    /// The counts of no lines.
     pub(crate) const NONE: Counts = Counts {
         refused: 0,
         freed: 0,
         dropped: 0,
     };
 
-    /// With one more line.
+    /// These counts with one more line.
     pub(crate) fn with(self, line: &[u8]) -> Counts
         requires refused { self.refused < u64.MAX }
         requires freed { self.freed < u64.MAX }
@@ -57,7 +57,7 @@ impl Counts {
         }
     }
 
-    /// With those of later lines; None where a count is past the greatest number.
+    /// These counts with those of later lines. None where a count is past the greatest number.
     pub(crate) fn plus(self, later: Counts) -> Option<Counts>
         ensures refused { IfSome result (λ c. c.refused ≡ self.refused + later.refused) }
         ensures freed { IfSome result (λ c. c.freed ≡ self.freed + later.freed) }
@@ -116,7 +116,7 @@ impl Told {
         }
     }
 
-    /// With one more line.
+    /// What these lines and one more tell.
     fn and(self, line: &[u8]) -> Told
         requires refused { self.counts.refused < u64.MAX }
         requires freed { self.counts.freed < u64.MAX }

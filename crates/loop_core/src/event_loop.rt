@@ -1,3 +1,4 @@
+//! `Loop`: what an event loop has to do, and in which order it is picked.
 use crate::pick::Pick;
 use fd_events::{ReadyEvent, Ring};
 use immediates::Soon;
@@ -5,9 +6,9 @@ use std::alloc::Global;
 use timers::Times;
 use tree_specs::{WAIT_LIMIT, Wants};
 
-/// What an event loop has to do. It picks what comes next in a turn (`tevent_loop_once`), and runs nothing. A turn begins
-/// with `begin`; each answer that a pick asks for is handed in, until something comes or nothing does. No pick takes
-/// memory.
+/// What an event loop has to do. It picks what comes next in a turn (`tevent_loop_once`), and runs nothing. A turn
+/// begins with `begin`; each answer that a pick asks for is handed in, until something comes or nothing does. No pick
+/// takes memory.
 #[derive(Drop)]
 pub struct Loop {
     /// What comes soon, the first in first.
@@ -22,7 +23,7 @@ impl Loop {
     ghost use Rattle.std.specs.Prelude.{◌≡◌, ◌≤◌, []};
     ghost use Rattle.loop_core.specs.Picks.{begin_pick, clock_pick, ready_pick, soon_after, times_after};
 
-    /// A loop that has nothing to do. It takes no memory.
+    /// A loop that has nothing to do.
     pub fn new(alloc: Global) -> Loop
         ensures soon { result.soon.objects ≡ [] }
         ensures times { result.times.dues ≡ [] }
@@ -35,8 +36,8 @@ impl Loop {
         }
     }
 
-    /// A turn begins. What comes soon is picked first; where there is nothing, a first time of 0 has come, for any other
-    /// one the clock is asked, and with no time it is waited for descriptors.
+    /// Begins a turn. What comes soon is picked first; where there is nothing, a first time of 0 has come, for any
+    /// other one the clock is asked, and with no time it is waited for descriptors.
     pub fn begin(&mut self) -> Pick
         ensures pick { result ≡ begin_pick self.old.soon.objects self.old.times.dues }
         ensures soon { self.new.soon.objects ≡ soon_after result self.old.soon.objects }
@@ -58,8 +59,8 @@ impl Loop {
         Pick::Time(due.object, 0)
     }
 
-    /// The clock has told the time, in microseconds, after a pick that asked for it. A first time that has come is picked.
-    /// For one that hasn't it is waited, where this turn has not `waited` before.
+    /// Goes on once the clock has told the time, in microseconds, after a pick that asked for it. A first time that has
+    /// come is picked. For one that hasn't it is waited, where this turn has not `waited` before.
     pub fn clock(&mut self, now: u64, waited: bool) -> Pick
         ensures pick { result ≡ clock_pick waited now self.old.times.dues }
         ensures soon { self.new.soon ≡ self.old.soon }
@@ -80,9 +81,9 @@ impl Loop {
         Pick::AskWait(due.time - now)
     }
 
-    /// These descriptors are ready, after a pick that asked for them. Where none is, the first time may have come. Otherwise
-    /// the first event is picked that waits for what its descriptor is ready for. It stays where it is: who runs its handler
-    /// puts it at the end.
+    /// Picks what comes when these descriptors are ready, after a pick that asked for them. Where none is, the first
+    /// time may have come. Otherwise the first event is picked that waits for what its descriptor is ready for. It
+    /// stays where it is: who runs its handler puts it at the end.
     pub fn ready(&self, list: &Wants) -> Pick
         ensures { result ≡ ready_pick list.now self.now.times.dues self.now.ring.watches }
     {

@@ -1,5 +1,5 @@
-//! The order of an event loop (`tevent_loop_once`): what comes soon goes before what has its time, and one thing comes in
-//! a turn.
+//! The order of an event loop (`tevent_loop_once`): what comes soon goes before what has its time, and one thing comes
+//! in a turn.
 #![tactic(auto)]
 
 mod event_loop;

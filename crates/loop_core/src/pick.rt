@@ -1,3 +1,4 @@
+//! What an event loop picks in a turn.
 use tree_specs::Obj;
 
 /// What a turn of an event loop does next.

@@ -1,3 +1,4 @@
+//! The limit of one object, with the sum of what is inside it.
 ghost use Rattle.std.specs.Prelude.{◌≡◌, ◌+◌, ◌&&◌, nat_lt};
 
 /// What is kept under the number of an object with a limit.

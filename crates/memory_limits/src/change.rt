@@ -1,3 +1,4 @@
+//! Changes of the sums: the bytes inside an object become more or fewer.
 ghost use Rattle.std.specs.Prelude.{◌≡◌, map};
 ghost use Rattle.tree_specs.specs.declared.object.Owner.TheVariants.{Of as At};
 ghost use Rattle.memory_limits.specs.Limits.{listed, summed, counts, counts_at};
@@ -15,13 +16,14 @@ pub(crate) struct Change {
 }
 
 impl Change {
+    /// The sum after this change.
     fn summed(self, sum: u64) -> u64
         ensures { result ≡ summed self sum }
     {
         sum.saturating_sub(self.less).saturating_add(self.more)
     }
 
-    // What an object counts, where it has a limit.
+    /// Changes the sum that is kept of an object, where it has a limit.
     fn count_at(self, x: Obj, all: &mut Arena<Allowance>)
         ensures limited { listed all.new.pairs ≡ map (counts_at self x) (listed all.old.pairs) }
         ensures spare { all.new.spare ≡ all.old.spare }
@@ -31,7 +33,8 @@ impl Change {
         }
     }
 
-    /// All objects with a limit that an object is inside of count it, itself included. It walks up from the object.
+    /// Changes the sums of all objects with a limit that an object is inside of, itself included. It walks up from the
+    /// object.
     pub fn count_above(self, tree: &Tree, x: Obj, all: &mut Arena<Allowance>)
         ensures limited { listed all.new.pairs ≡ map (counts self tree.now.rows (At x)) (listed all.old.pairs) }
         ensures spare { all.new.spare ≡ all.old.spare }

@@ -1,3 +1,4 @@
+//! An object with a limit, as contracts see it.
 use tree_specs::Obj;
 
 /// An object with a limit, as contracts see it.

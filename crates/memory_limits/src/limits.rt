@@ -1,3 +1,4 @@
+//! `Sums`: the limits of objects, each with the sum of what is inside its object.
 ghost use Rattle.std.specs.Prelude.{◌+◌, ◌≡◌};
 
 use crate::allowance::Allowance;
@@ -59,19 +60,21 @@ impl Sums {
         Ok(self.limited.reserve(more)?)
     }
 
+    /// Whether no object has a limit.
     fn is_empty(&self) -> bool
         ensures { IsTrue result ↔ (self.now.limited ≡ []) }
     {
         self.limited.len() == 0
     }
 
+    /// What is kept of an object with a limit. None exactly where it has none.
     fn find(&self, x: Obj) -> Option<Allowance>
         ensures { option_map (limited_at x.0) result ≡ found self.now.limited x }
     {
         self.limited.get(x.0).copied()
     }
 
-    // The nearest object with a limit from an owner upward, the owner included.
+    /// The nearest object with a limit from an owner upward, the owner included.
     fn nearest(&self, tree: &Tree, owner: Owner) -> Option<Obj>
         ensures nearest { result ≡ nearest_limited self.now.limited tree.now.rows owner }
         ensures sound { IsTree tree.now.rows tree.now.next }
@@ -91,7 +94,7 @@ impl Sums {
         None
     }
 
-    /// An object came below its owner, with all that is inside it.
+    /// Counts an object that came below its owner, with all that is inside it.
     pub fn joined(&mut self, tree: &Tree, x: Obj)
         requires { AllSums self.old.limited (changed left_row tree.now.rows x) }
         ensures sums { AllSums self.new.limited tree.now.rows }
@@ -111,7 +114,8 @@ impl Sums {
         Change { less: 0, more }.count_above(tree, nearest, &mut self.limited);
     }
 
-    /// An object has left an owner that isn't inside it, with all that is inside it, to another owner or to none.
+    /// Counts that an object has left an owner that isn't inside it, with all that is inside it, to another owner or to
+    /// none.
     pub fn left(&mut self, tree: &Tree, x: Obj, from: Owner)
         requires is { is_row tree.now.rows x ≡ true }
         requires apart { is_inside tree.now.rows from (At x) ≡ false }
@@ -130,7 +134,7 @@ impl Sums {
         Change { less, more: 0 }.count_above(tree, nearest, &mut self.limited);
     }
 
-    /// A plain object had this size before, in bytes.
+    /// Counts that a plain object has another size than before, which is given in bytes.
     pub fn resized(&mut self, tree: &Tree, x: Obj, before: u64)
         requires plain { is_plain_row (row_of tree.now.rows x) ≡ true }
         requires sums { AllSums self.old.limited (changed (sized_row before) tree.now.rows x) }
@@ -145,8 +149,8 @@ impl Sums {
         Change { less, more }.count_above(tree, x, &mut self.limited);
     }
 
-    /// An object has no limit any more, or is no more. Where it had left its owner, or is a reference, the sums are then
-    /// those of the objects without it.
+    /// Forgets the limit of an object that has none any more, or is no more. Where it had left its owner, or is a
+    /// reference, the sums are then those of the objects without it.
     pub fn gone(&mut self, x: Obj)
         ensures limits { self.new.limited ≡ unlimited self.old.limited x }
         ensures sums { (rows : List RowData) → IsForest rows → is_row rows x ≡ true → HasLeft rows x → AllSums self.old.limited rows → AllSums self.new.limited (without rows x) }
@@ -158,7 +162,7 @@ impl Sums {
         self.limited.take(x.0);
     }
 
-    /// An object gets a limit in bytes, where 0 is none.
+    /// Sets the limit of an object, in bytes; 0 is none.
     pub fn set_limit(&mut self, tree: &Tree, x: Obj, max: u64)
         requires room { 0 < self.old.spare }
         requires sums { AllSums self.old.limited tree.now.rows }
@@ -176,8 +180,8 @@ impl Sums {
         self.limited.add(x.0, Allowance { limit: max, sum });
     }
 
-    /// What the objects inside an owner count, in bytes: each its size and 96 more, a reference nothing. It is kept for
-    /// an object with a limit.
+    /// What the objects inside an owner count, in bytes: each its size and `OVERHEAD` more, a reference nothing. It is
+    /// kept for an object with a limit.
     pub fn sum(&self, tree: &Tree, owner: Owner) -> u64
         requires { AllSums self.now.limited tree.now.rows }
         ensures { result ≡ sum_inside tree.now.rows owner }

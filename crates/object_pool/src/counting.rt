@@ -10,13 +10,13 @@ use memory_limits::Sums;
 use tree_links::{NewRow, Tree};
 use tree_specs::{FreeStep, Kind, Name, Obj, Owner};
 
-/// A new object is there.
+/// Counts a new object.
 pub fn count_added(x: Obj, tree: &Tree, sums: &mut Sums)
     requires { WasAdded x sums.old.limited tree.now.rows }
     ensures kept { AreLimitsOf sums.new.limited tree.now.rows }
     ensures spare { sums.new.spare ≡ sums.old.spare }
 {
-    // All that is wanted of `len` is its contract: each number stands once.
+    // Read for the prover: the contract of `len` says that each number stands once.
     let _rows = tree.len();
     sums.joined(tree, x);
 }
@@ -49,7 +49,7 @@ pub fn add_row(
     added
 }
 
-/// An object went from an owner, or from none, to another one.
+/// Counts that an object went from an owner, or from none, to another one.
 pub fn count_went(x: Obj, from: Option<Owner>, tree: &Tree, sums: &mut Sums)
     requires { WentFrom x from sums.old.limited tree.now.rows }
     ensures kept { AreLimitsOf sums.new.limited tree.now.rows }
@@ -61,7 +61,7 @@ pub fn count_went(x: Obj, from: Option<Owner>, tree: &Tree, sums: &mut Sums)
     sums.joined(tree, x);
 }
 
-/// A step of a free was made.
+/// Counts a step of a free.
 pub fn count_step(step: &FreeStep, tree: &Tree, sums: &mut Sums)
     requires { WasCounted step.now sums.old.limited tree.now.rows }
     ensures kept { AreLimitsOf sums.new.limited tree.now.rows }

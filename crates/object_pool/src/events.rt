@@ -1,4 +1,5 @@
-//! What is to come, and what runs then.
+//! The events of a host: which are to come, and what runs then; with the open descriptors, and what is kept of requests
+//! and queues.
 ghost use Rattle.std.specs.Prelude.{◌≡◌, ◌+◌, ◌<◌, false, IfSome};
 ghost use Rattle.std.specs.FinMap as map;
 
@@ -13,9 +14,10 @@ use std::alloc::Global;
 use std::marker::Model;
 use tree_specs::{FreeStep, Handler, Memory, Obj, Want, Wants};
 
-/// The events of a host: which of them are to come, and the handler of each; the descriptors that are open; and the notes of
-/// requests. Contracts see the lists of those to come, the handlers and notes by the numbers of their events and requests, the
-/// numbers of the descriptors, and how many more there may be without taking memory.
+/// The events of a host: which of them are to come, and the handler of each; the descriptors that are open; the notes
+/// of requests; and the queues. Contracts see the lists of those to come, the handlers and notes by the numbers of
+/// their events and requests, the numbers of the descriptors, the queues, and how many more there may be without taking
+/// memory.
 #[derive(Drop)]
 pub struct Events {
     order: Loop,
@@ -40,7 +42,7 @@ impl Model for Events {
     ghost invariant = { λ e. length e.queues.queues.entries ≤ e.order.soon.spare };
 }
 
-/// This is kept under a number, in place of what was kept there.
+/// Keeps a value under a number, in place of what was kept there.
 fn put<T: Copy>(kept: &mut Arena<T>, number: u64, value: T)
     requires { 0 < kept.old.spare }
     ensures { kept.new.pairs ≡ map.insert kept.old.pairs number value }
@@ -51,7 +53,7 @@ fn put<T: Copy>(kept: &mut Arena<T>, number: u64, value: T)
     }
 }
 
-/// How many these are together, where as many can be counted.
+/// The sum of these. None where it can't be counted.
 fn count(soon: usize, times: usize, ring: usize, entries: usize) -> Option<usize>
     ensures { IfSome result (λ n. n ≡ soon + times + ring + entries) }
 {
@@ -73,7 +75,7 @@ impl Events {
     ghost use Rattle.std.specs.Prelude.{Some};
     ghost use Rattle.tree_specs.specs.Events.Pending.{unscheduled};
 
-    /// Nothing is to come, and the listener is open alone.
+    /// Events of which none is to come. The listener's descriptor is open, and no other.
     pub fn new(alloc: Global) -> Result<Events, Memory>
         ensures { IfOk result (λ events. events.upcoming ≡ nothing_comes) }
     {
@@ -89,8 +91,8 @@ impl Events {
         })
     }
 
-    /// Takes the memory for one more that is to come, one more descriptor, one more request, one more queue and one more entry,
-    /// where as many can be counted. If memory runs out, all is as it was.
+    /// Takes the memory for one more that is to come, one more descriptor, one more request, one more queue and one
+    /// more entry, where as many can be counted. If memory runs out, all is as it was.
     pub fn reserve(&mut self) -> Result<(), Memory>
         ensures upcoming { self.new.upcoming ≡ self.old.upcoming }
         ensures kept { KeepsPlaces self.old self.new }
@@ -110,7 +112,8 @@ impl Events {
         self.queues.reserve(1)
     }
 
-    /// An event is to come soon, after all others, and this handler is to run then. One that waits already goes to the end.
+    /// Schedules an event: it comes soon, after all others, and this handler runs then. One that waits already goes to
+    /// the end.
     pub fn schedule(&mut self, x: Obj, handler: Handler)
         requires { HasPlace self.old }
         ensures { self.new.upcoming ≡ soon_with x handler self.old.upcoming }
@@ -119,7 +122,7 @@ impl Events {
         self.order.soon.push(x);
     }
 
-    /// An event doesn't come soon any more.
+    /// Takes an event out of those that come soon. Nothing changes where it isn't among them.
     pub fn unschedule(&mut self, x: Obj)
         ensures upcoming { self.new.upcoming ≡ record self.old.upcoming { soon = unscheduled self.old.upcoming.soon x } }
         ensures kept { KeepsPlaces self.old self.new }
@@ -127,7 +130,8 @@ impl Events {
         self.order.soon.remove(x);
     }
 
-    /// An event is to come at a time, in microseconds, and this handler is to run then. No other time has its number.
+    /// Sets the time at which an event comes, in microseconds, and the handler that runs then. No other time has its
+    /// number.
     pub fn arm(&mut self, x: Obj, time: u64, handler: Handler)
         requires place { HasPlace self.old }
         requires number { is_numbered (disarmed self.old.upcoming.times x) x.0 ≡ false }
@@ -137,7 +141,8 @@ impl Events {
         self.order.times.arm(x, time, x.0);
     }
 
-    /// An event watches a descriptor, for these flags, and this handler is to run when it is ready for one of them.
+    /// Makes an event watch a descriptor for these flags, and sets the handler that runs when it is ready for one of
+    /// them.
     pub fn watch(&mut self, x: Obj, fd: u32, flags: u32, handler: Handler)
         requires place { HasPlace self.old }
         requires event { is_watching self.old.upcoming.ring x ≡ false }
@@ -155,7 +160,7 @@ impl Events {
         self.order.ring.flags(x)
     }
 
-    /// An event on a descriptor waits for these flags from now on. Nothing changes where it watches nothing.
+    /// Sets the flags that an event on a descriptor waits for. Nothing changes where it watches nothing.
     pub fn set_flags(&mut self, x: Obj, flags: u32)
         ensures upcoming { self.new.upcoming ≡ with_watch (flagged flags) x self.old.upcoming }
         ensures kept { KeepsPlaces self.old self.new }
@@ -163,7 +168,7 @@ impl Events {
         self.order.ring.set_flags(x, flags);
     }
 
-    /// The descriptor of an event is closed with it. Nothing changes where it watches nothing.
+    /// Marks the descriptor of an event to be closed with it. Nothing changes where it watches nothing.
     pub fn set_closing(&mut self, x: Obj)
         ensures upcoming { self.new.upcoming ≡ with_watch closing x self.old.upcoming }
         ensures kept { KeepsPlaces self.old self.new }
@@ -171,7 +176,7 @@ impl Events {
         self.order.ring.set_closing(x);
     }
 
-    /// An event on a descriptor that has come is looked at after all others.
+    /// Puts an event on a descriptor behind all others, once it has come.
     pub fn turn_back(&mut self, x: Obj)
         ensures upcoming { self.new.upcoming ≡ record self.old.upcoming { ring = turned_back self.old.upcoming.ring x } }
         ensures kept { KeepsPlaces self.old self.new }
@@ -186,8 +191,8 @@ impl Events {
         self.order.ring.holder(fd).is_some()
     }
 
-    /// The descriptors that are watched for something, and what for, in the order in which they are looked at, in place of
-    /// what was there. After want of memory nothing is given.
+    /// Gives the descriptors that are watched for something, and what for, in the order in which they are looked at, in
+    /// place of what was in `out`. If memory runs out, nothing is given.
     pub fn wants(&self, out: &mut Vec<Want>) -> Result<(), Memory>
         ensures wants { OnOk result (out.new.items ≡ wanted_of self.now.upcoming.ring) }
         ensures nothing { OnErr result (out.new.items ≡ []) }
@@ -202,7 +207,7 @@ impl Events {
         self.descriptors.get(u64::from(fd)).is_some()
     }
 
-    /// A descriptor is open from now on.
+    /// Marks a descriptor as open.
     pub fn open(&mut self, fd: u32)
         requires { HasPlace self.old }
         ensures { self.new.upcoming ≡ with_open fd self.old.upcoming }
@@ -210,7 +215,7 @@ impl Events {
         put(&mut self.descriptors, u64::from(fd), ());
     }
 
-    /// A descriptor is open no more.
+    /// Marks a descriptor as closed.
     pub fn close(&mut self, fd: u32)
         ensures upcoming { self.new.upcoming ≡ with_closed fd self.old.upcoming }
         ensures kept { KeepsPlaces self.old self.new }
@@ -226,7 +231,7 @@ impl Events {
         if watch.closes { Some(watch.fd) } else { None }
     }
 
-    /// An object waits no more. Gives the descriptor that was closed with it, where one was.
+    /// Takes an object out of all that is to come. Gives the descriptor that was closed with it, where one was.
     fn disarm(&mut self, x: Obj) -> Option<u32>
         ensures closed { result ≡ closes_with self.old.upcoming.ring x }
         ensures upcoming { self.new.upcoming ≡ stilled x self.old.upcoming }
@@ -242,7 +247,8 @@ impl Events {
         closed
     }
 
-    /// An object waits no more, and an entry leaves its queue. Gives the descriptor that was closed with it, where one was.
+    /// Takes an object out of all that is to come, and an entry out of its queue. Gives the descriptor that was closed
+    /// with it, where one was.
     fn let_go(&mut self, x: Obj) -> Option<u32>
         ensures closed { result ≡ closes_with self.old.upcoming.ring x }
         ensures upcoming { self.new.upcoming ≡ without_event x self.old.upcoming }
@@ -253,7 +259,7 @@ impl Events {
         closed
     }
 
-    /// Nothing is kept of an object any more.
+    /// Forgets all that is kept of an object.
     fn forget(&mut self, x: Obj)
         requires { has_entries self.old.upcoming.queues x ≡ false }
         ensures upcoming { self.new.upcoming ≡ forgotten x self.old.upcoming }
@@ -264,8 +270,8 @@ impl Events {
         self.queues.forget_queue(x);
     }
 
-    /// A step of a free was made: an object that has left its owner, or is to go once its handler is over, waits no more,
-    /// and nothing is kept of what is no more. Gives the descriptor that was closed, where one was.
+    /// Follows a step of a free: an object that has left its owner, or is to go once its handler is over, waits no
+    /// more, and nothing is kept of what is no more. Gives the descriptor that was closed, where one was.
     pub fn follow(&mut self, step: &FreeStep) -> Option<u32>
         requires { MayForget (Some step.now) self.old.upcoming.queues }
         ensures closed { result ≡ closed_of self.old.upcoming.ring step.now }
@@ -296,7 +302,7 @@ impl Events {
         (self.order.soon.len() + self.order.times.len() + self.order.ring.len()) as u64
     }
 
-    /// A turn begins: what was picked waits no more.
+    /// Begins a turn, and picks what comes. What was picked waits no more.
     pub fn begin(&mut self) -> Pick
         ensures pick { result ≡ begin_pick self.old.upcoming.soon self.old.upcoming.times }
         ensures upcoming { self.new.upcoming ≡ picked result self.old.upcoming }
@@ -305,7 +311,8 @@ impl Events {
         self.order.begin()
     }
 
-    /// The clock has told the time, in microseconds, in a turn that has `waited` for descriptors before, or hasn't.
+    /// Picks what comes once the clock has told the time, in microseconds, in a turn that has `waited` for descriptors
+    /// before, or hasn't. What was picked waits no more.
     pub fn clock(&mut self, now: u64, waited: bool) -> Pick
         ensures pick { result ≡ clock_pick waited now self.old.upcoming.times }
         ensures upcoming { self.new.upcoming ≡ picked result self.old.upcoming }
@@ -314,7 +321,7 @@ impl Events {
         self.order.clock(now, waited)
     }
 
-    /// These descriptors are ready.
+    /// Picks what comes when these descriptors are ready.
     pub fn ready(&self, list: &Wants) -> Pick
         ensures { result ≡ ready_pick list.now self.now.upcoming.times self.now.upcoming.ring }
     {

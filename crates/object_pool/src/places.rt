@@ -8,7 +8,7 @@ use memory_limits::Sums;
 use references::Refs;
 use tree_specs::Memory;
 
-/// For one more reference.
+/// Takes the memory for one more reference, where it isn't there yet.
 pub fn want_reference(is_there: bool, refs: &mut Refs) -> Result<(), Memory>
     requires { is_there ≡ true → 0 < refs.old.spare }
     ensures pairs { refs.new.pairs ≡ refs.old.pairs }
@@ -18,7 +18,7 @@ pub fn want_reference(is_there: bool, refs: &mut Refs) -> Result<(), Memory>
     if is_there { Ok(()) } else { refs.reserve(1) }
 }
 
-/// For one more limit.
+/// Takes the memory for one more limit, where it isn't there yet.
 pub fn want_limit(is_there: bool, sums: &mut Sums) -> Result<(), Memory>
     requires { is_there ≡ true → 0 < sums.old.spare }
     ensures limits { sums.new.limited ≡ sums.old.limited }
@@ -28,7 +28,7 @@ pub fn want_limit(is_there: bool, sums: &mut Sums) -> Result<(), Memory>
     if is_there { Ok(()) } else { sums.reserve(1) }
 }
 
-/// For one more object that waits for an event, with what it waits for.
+/// Takes the memory for one more object that waits for an event, with what it waits for, where it isn't there yet.
 pub fn want_event(is_there: bool, events: &mut Events) -> Result<(), Memory>
     requires { is_there ≡ true → MayWait events.old }
     ensures upcoming { events.new.upcoming ≡ events.old.upcoming }

@@ -1,3 +1,11 @@
+//! `ObjectPool`: all that a host keeps of its objects as one value: the tree, the references, the limits, what is to
+//! come, and the open frees. Its invariant (`AgreeWith` in `specs/Agreeing`) says that these agree.
+//!
+//! Contracts see `Objects`: the pool of the rules, the works of the open frees, and whether the memory for one call is
+//! taken. What a change does is one equation on these.
+//!
+//! Read on in `pool/`, where the methods stand by topic, in `events.rt` (what is to come), and in `counting.rt` (what
+//! the limits are told of each change).
 use crate::counting::{add_row, count_added, count_went};
 use crate::events::Events;
 use crate::places::{want_event, want_limit, want_reference};
@@ -19,10 +27,10 @@ mod watching;
 
 pub use freeing::Progress;
 
-/// The objects: who owns whom, what refers to what, what their limits are, which of them are to come and what runs then,
-/// and the frees that are open on them.
-/// Contracts see the pool, the works of the open frees, the innermost first, and whether the memory for one call is
-/// taken. No change takes memory: what may want some asks for that before.
+/// The objects: who owns whom, what refers to what, what their limits are, which of them are to come and what runs
+/// then, and the frees that are open on them. Contracts see the pool, the works of the open frees, the innermost first,
+/// and whether the memory for one call is taken. No change takes memory: what needs some requires that `reserve` has
+/// taken it.
 #[derive(Drop)]
 pub struct ObjectPool {
     engine: FreeEngine,
@@ -30,14 +38,14 @@ pub struct ObjectPool {
     refs: Refs,
     sums: Sums,
     events: Events,
-    /// The memory for one more reference is taken.
+    /// Whether the memory for one more reference is taken.
     reference: bool,
-    /// The memory for one more limit is taken.
+    /// Whether the memory for one more limit is taken.
     limit: bool,
-    /// The memory for one more event that is to come, one more descriptor, one more request, one more queue and one more entry is
-    /// taken.
+    /// Whether the memory for one more event that is to come, one more descriptor, one more request, one more queue and
+    /// one more entry is taken.
     event: bool,
-    /// The memory for one call is taken.
+    /// Whether the memory for one call is taken.
     ready: bool,
 }
 
@@ -69,7 +77,8 @@ impl ObjectPool {
     ghost use Rattle.references.specs.Rows.{RefersTo};
     ghost use Rattle.object_pool.specs.Objects.{RefsMayGo};
 
-    /// No objects, of which the first gets the number `first`; the listener's descriptor 0 is open alone.
+    /// A pool with no objects, whose first one gets the number `first`. The listener's descriptor 0 is open, and no
+    /// other.
     pub fn new(alloc: Global, first: u64) -> Result<ObjectPool, Memory>
         ensures { IfOk result (λ objects. objects ≡ record { pool = empty first; works = []; ready = false }) }
     {
@@ -87,8 +96,8 @@ impl ObjectPool {
         })
     }
 
-    /// Takes the memory for one call, with all that comes of it up to the next question. Most calls find it there, as they add
-    /// no object.
+    /// Takes the memory for one call, with all that comes of it up to the next question. Most calls find it there, as
+    /// they add no object.
     #[inline(always)]
     pub fn reserve(&mut self) -> Result<(), Memory>
         ensures ok { OnOk result (self.new ≡ record self.old { ready = true }) }
@@ -133,7 +142,7 @@ impl ObjectPool {
         add_row(kind, name, size, owner, &mut self.tree, &mut self.sums)
     }
 
-    /// An owner gets a reference to an object, which is an object with a number of its own.
+    /// Gives an owner a reference to an object. The reference is an object with a number of its own, which is given.
     pub fn refer(&mut self, target: Obj, owner: Owner) -> Obj
         requires ready { self.old.ready ≡ true }
         requires few { length self.old.pool.rows < row_limit }
@@ -159,7 +168,7 @@ impl ObjectPool {
         count_went(x, from, &self.tree, &mut self.sums);
     }
 
-    /// An object goes from its owner to another one. An owner that only has references to it gives the newest of them.
+    /// Gives an object from its owner to another one. An owner that only has references to it gives the newest of them.
     pub fn reparent(&mut self, from: Owner, to: Owner, x: Obj)
         requires itself { is_below (owner_of self.old.pool.rows x) from ≡ true → MayPlace self.old.pool.rows x to }
         requires reference { RefsMayGo self.old.pool.rows }
@@ -173,7 +182,7 @@ impl ObjectPool {
         }
     }
 
-    /// An object gets a routine as its destructor, where 0 is none.
+    /// Sets the routine that is the destructor of an object; 0 is none.
     pub fn hook(&mut self, x: Obj, routine: u32)
         requires { is_row self.old.pool.rows x ≡ true }
         ensures { self.new ≡ record self.old { pool = hooked self.old.pool x routine } }
@@ -181,7 +190,7 @@ impl ObjectPool {
         self.tree.set_hook(x, routine);
     }
 
-    /// An object gets another name.
+    /// Gives an object another name.
     pub fn rename(&mut self, x: Obj, name: Name)
         requires { is_row self.old.pool.rows x ≡ true }
         ensures { self.new ≡ record self.old { pool = renamed self.old.pool x name } }
@@ -189,7 +198,7 @@ impl ObjectPool {
         self.tree.set_name(x, name);
     }
 
-    /// A plain object gets another size, in bytes.
+    /// Gives a plain object another size, in bytes.
     pub fn resize(&mut self, x: Obj, size: u64)
         requires plain { is_plain_row (row_of self.old.pool.rows x) ≡ true }
         requires small { size < size_limit }
@@ -200,7 +209,7 @@ impl ObjectPool {
         self.sums.resized(&self.tree, x, before);
     }
 
-    /// An object gets a limit in bytes for what is inside it, where 0 is none.
+    /// Sets the limit of an object, in bytes, for what is inside it; 0 is none.
     pub fn limit(&mut self, x: Obj, max: u64)
         requires ready { self.old.ready ≡ true }
         requires is { is_row self.old.pool.rows x ≡ true }

@@ -1,5 +1,6 @@
-//! Guesses: what is known of the keys with the same last bits, so that a look-up seldom needs a hash. Serial numbers that are
-//! held seldom share these: mostly it is known at once that a key isn't held, or at which index to look for it.
+//! Guesses: what is known of the keys with the same last bits, so that a look-up seldom needs a hash. Serial numbers
+//! that are held seldom share these: mostly it is known at once that a key isn't held, or at which index to look for
+//! it.
 ghost use Rattle.indexmap.specs.IndexMap.{get as place_get};
 ghost use Rattle.std.specs.Prelude.{nat_eq, ◌≡◌, ◌<◌, ◌≤◌, IsTrue, false, IfOk, OnOk, None, length, set};
 ghost use Rattle.pool_arena.specs.Guesses.{AreRight, home as home_of, guess_at, joined as joined_by, left as left_by, moved as moved_by, with_guess};
@@ -74,7 +75,7 @@ fn guess_of(guesses: &[Guess], key: u64) -> Guess
         .unwrap_or(Guess::Nobody)
 }
 
-/// A key has this guess from now on.
+/// Sets the guess of a key.
 fn set_guess(guesses: &mut Vec<Guess>, key: u64, guess: Guess)
     ensures { guesses.new.items ≡ set guesses.old.items (home_of (length guesses.old.items) key) guess }
 {
@@ -84,7 +85,7 @@ fn set_guess(guesses: &mut Vec<Guess>, key: u64, guess: Guess)
     }
 }
 
-/// A key is held from now on, at this index.
+/// Notes that a key is held from now on, at this index.
 pub(crate) fn join(guesses: &mut Vec<Guess>, key: u64, index: u32)
     ensures { guesses.new.items ≡ with_guess (joined_by index) key guesses.old.items }
 {
@@ -92,7 +93,7 @@ pub(crate) fn join(guesses: &mut Vec<Guess>, key: u64, index: u32)
     set_guess(guesses, key, guess.joined(index));
 }
 
-/// A key that was held isn't any more.
+/// Notes that a key that was held isn't any more.
 pub(crate) fn leave(guesses: &mut Vec<Guess>, key: u64)
     ensures { guesses.new.items ≡ with_guess left_by key guesses.old.items }
 {
@@ -100,7 +101,7 @@ pub(crate) fn leave(guesses: &mut Vec<Guess>, key: u64)
     set_guess(guesses, key, guess.left());
 }
 
-/// A key that is held is at this index now.
+/// Notes that a key that is held is at this index now.
 fn move_to(guesses: &mut Vec<Guess>, key: u64, index: u32)
     ensures { guesses.new.items ≡ with_guess (moved_by index) key guesses.old.items }
 {
@@ -108,7 +109,7 @@ fn move_to(guesses: &mut Vec<Guess>, key: u64, index: u32)
     set_guess(guesses, key, guess.moved(index));
 }
 
-/// The key that is at this index now, if one is, is to be looked for there.
+/// Notes where to look for the key that is at this index now, if one is.
 pub(crate) fn look_at(guesses: &mut Vec<Guess>, places: &IndexMap<u64, usize>, index: usize)
     requires { AreRight guesses.old.items (IsHeld places.now) }
     ensures right { AreRight guesses.new.items (IsHeld places.now) }
@@ -139,7 +140,7 @@ fn guesses_for(
     Ok(guesses)
 }
 
-/// There are twice as many guesses.
+/// Makes twice as many guesses.
 #[cold]
 #[inline(never)]
 fn widen(guesses: &mut Vec<Guess>, places: &IndexMap<u64, usize>) -> Result<(), AllocError>
@@ -153,7 +154,8 @@ fn widen(guesses: &mut Vec<Guess>, places: &IndexMap<u64, usize>) -> Result<(), 
     Ok(())
 }
 
-/// There are at least twice as many guesses as keys, so that few keys share one. If memory runs out, there are as many as before.
+/// Sees that there are at least twice as many guesses as keys, so that few keys share one. If memory runs out, there
+/// are as many as before.
 #[inline]
 pub(crate) fn keep_up(
     guesses: &mut Vec<Guess>,

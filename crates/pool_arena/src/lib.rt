@@ -47,7 +47,7 @@ impl<T> Arena<T> {
     ghost use Rattle.pool_arena.specs.Arena.{get};
     ghost use Rattle.pool_arena.specs.Lends.{lends_get};
 
-    /// No values. It takes no memory.
+    /// No values.
     pub fn new(alloc: Global) -> Self
         ensures empty { result.pairs ≡ map.empty }
         ensures spare { result.spare ≡ 0 }

@@ -1,3 +1,4 @@
+//! What is kept of an object that has references: the newest of them, and how many there are.
 ghost use Rattle.std.specs.Prelude.{◌≡◌, ◌≤◌, ◌+◌, ◌<◌, ◌-◌, ◌^◌, ℕ, Option, Some, None, cond, nat_eq};
 ghost use Rattle.std.specs.Option.{option_map, option_and_then};
 ghost use Rattle.pool_arena.specs.Arena.{get};
@@ -34,7 +35,7 @@ pub(crate) fn count(heads: &Arena<Head>, target: u64) -> u32
     }
 }
 
-// The references to an object. None exactly where there is none.
+/// The references to an object. None exactly where there is none.
 fn find(heads: &Arena<Head>, target: u64) -> Option<Head>
     ensures { result ≡ get heads.now target }
 {
@@ -45,7 +46,7 @@ fn find(heads: &Arena<Head>, target: u64) -> Option<Head>
     heads.get(target).copied()
 }
 
-/// A reference joins those to its target as the newest, and the one that was the newest is given. None exactly where
+/// Adds a reference to those to its target as the newest, and gives the one that was the newest. None exactly where
 /// there was none. There is room for it.
 pub(crate) fn join(heads: &mut Arena<Head>, target: u64, reference: u64) -> Option<u64>
     requires room { 0 < heads.old.spare }
@@ -76,7 +77,7 @@ pub(crate) fn join(heads: &mut Arena<Head>, target: u64, reference: u64) -> Opti
     }
 }
 
-/// A reference with these neighbours leaves those to its target.
+/// Takes a reference with these neighbours out of those to its target.
 pub(crate) fn leave(heads: &mut Arena<Head>, target: u64, sides: Sides)
     requires { (h : HeadData) → get heads.old target ≡ Some h → 0 < h.count }
     ensures heads { (q : ℕ) → get heads.new q ≡ cond (nat_eq target q) (option_and_then (left sides) (get heads.old target)) (get heads.old q) }
@@ -89,7 +90,7 @@ pub(crate) fn leave(heads: &mut Arena<Head>, target: u64, sides: Sides)
     }
 }
 
-// The only one has left.
+/// Forgets an object whose only reference has left.
 fn forget(heads: &mut Arena<Head>, target: u64)
     ensures heads { (q : ℕ) → get heads.new q ≡ cond (nat_eq target q) None (get heads.old q) }
     ensures spare { heads.old.spare ≤ heads.new.spare }
@@ -97,7 +98,8 @@ fn forget(heads: &mut Arena<Head>, target: u64)
     let _head = heads.take(target);
 }
 
-// One of several has left, and `newest` is the newest from then on, where that is another one than before.
+/// Counts that one of several references has left. `newest` is the newest from then on, where that is another one than
+/// before.
 fn shorten(heads: &mut Arena<Head>, target: u64, newest: Option<u64>)
     requires { (h : HeadData) → get heads.old target ≡ Some h → 0 < h.count }
     ensures heads { (q : ℕ) → get heads.new q ≡ cond (nat_eq target q) (option_map (shortened newest) (get heads.old target)) (get heads.old q) }

@@ -1,3 +1,4 @@
+//! What is kept of a reference: its target, and its neighbours among the references to that target.
 ghost use Rattle.std.specs.Prelude.{◌≡◌, ℕ, cond};
 ghost use Rattle.std.specs.Option.{option_map};
 ghost use Rattle.pool_arena.specs.Arena.{get};
@@ -14,7 +15,7 @@ pub(crate) struct Node {
     pub sides: Sides,
 }
 
-/// A reference has another neighbour. Nothing changes where there is no such reference.
+/// Notes another neighbour of a reference. Nothing changes where there is no such reference.
 pub(crate) fn set_link(nodes: &mut Arena<Node>, at: Option<u64>, link: Link)
     ensures nodes { (q : ℕ) → get nodes.new q ≡ cond (is_at at q) (option_map (with_link link) (get nodes.old q)) (get nodes.old q) }
     ensures spare { nodes.new.spare ≡ nodes.old.spare }

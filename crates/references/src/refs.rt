@@ -1,3 +1,11 @@
+//! `Refs`: which object refers to which. The target of a reference, the newest reference to an object and the number of
+//! references to it are found in the same time however many references there are; the newest one that an owner has is
+//! searched for.
+//!
+//! Contracts see the list of pairs of a reference and its target, the newest reference first, and for how many more
+//! there is memory (`spare`). `AreRefsOf` in `specs/Rows` says that these are the references among the rows of a tree.
+//!
+//! Read on in `head.rt` and `node.rt`, which keep the references to one object as a lane, and in `referring.rt`.
 ghost use Rattle.std.specs.Prelude.{◌≡◌};
 ghost use Rattle.std.specs.Option.{option_map};
 ghost use Rattle.tree_specs.specs.Tree.Targets.{newer as newer_of};
@@ -21,8 +29,8 @@ pub struct Pair {
     pub target: Obj,
 }
 
-/// The references that there are. Contracts see the list of pairs, the greatest reference first, and spare: so many
-/// can be added without taking memory. There are at most 4,294,967,295.
+/// The references that there are. Contracts see the list of pairs, the one with the greatest reference first, and
+/// spare: so many can be added without taking memory. There are at most 4,294,967,295. Only `reserve` takes memory.
 #[derive(Drop)]
 pub struct Refs {
     /// Under the numbers of the references.
@@ -44,7 +52,7 @@ impl Model for Refs {
     ghost invariant = { λ r. IsLinked r.nodes.pairs r.heads.pairs };
 }
 
-// The object of this number, where there is one.
+/// The object of this number, where there is one.
 fn obj(number: Option<u64>) -> Option<Obj>
     ensures { result ≡ option_map numbered number }
 {
@@ -54,7 +62,7 @@ fn obj(number: Option<u64>) -> Option<Obj>
     }
 }
 
-// The newer of a reference and another one, where there is one.
+/// The newer of a reference and another one, where there is one.
 fn newer(reference: Obj, other: Option<Obj>) -> Option<Obj>
     ensures { result ≡ newer_of reference other }
 {
@@ -154,12 +162,12 @@ impl Refs {
         ensures newest { result ≡ newest_ref tree.now.rows target }
         ensures is { RefersTo tree.now.rows result target }
     {
-        // All that is wanted of `len` is its contract: each number stands once.
+        // Read for the prover: the contract of `len` says that each number stands once.
         let _rows = tree.len();
         self.first_ref(target)
     }
 
-    // The newer of a child and those before it, where the child refers to the object.
+    /// The newer of a child and those before it, where the child refers to the object.
     fn with_child(&self, child: Obj, newest: Option<Obj>, target: Obj) -> Option<Obj>
         ensures { result ≡ with_ref self.now.pairs target child newest }
     {
@@ -169,8 +177,8 @@ impl Refs {
         }
     }
 
-    // The newest reference to an object that an owner has. An object may have very many references, and an owner very
-    // many children: so both are gone through, one of each in turn, until either ends.
+    /// The newest reference to an object that an owner has. An object may have very many references, and an owner very
+    /// many children: so both are gone through, one of each in turn, until either ends.
     fn first_owned(&self, tree: &Tree, owner: Owner, target: Obj) -> Option<Obj>
         requires refs { AreRefsOf self.now.pairs tree.now.rows }
         requires distinct { Distinct tree.now.rows }
@@ -199,14 +207,14 @@ impl Refs {
     }
 
     /// The newest reference to an object that an owner has. None exactly where it has none. The references are those
-    /// among the rows. It goes through the references to the object and the children of the owner side by side, and ends
-    /// with whichever ends first.
+    /// among the rows. It goes through the references to the object and the children of the owner side by side, and
+    /// ends with whichever ends first.
     pub fn newest_of(&self, tree: &Tree, owner: Owner, target: Obj) -> Option<Obj>
         requires { AreRefsOf self.now.pairs tree.now.rows }
         ensures newest { result ≡ newest_ref_of tree.now.rows owner target }
         ensures is { RefersTo tree.now.rows result target }
     {
-        // All that is wanted of `len` is its contract: each number stands once.
+        // Read for the prover: the contract of `len` says that each number stands once.
         let _rows = tree.len();
         self.first_owned(tree, owner, target)
     }
@@ -235,7 +243,7 @@ impl Refs {
         requires { AreRefsOf self.now.pairs tree.now.rows }
         ensures { result ≡ count_refs tree.now.rows target }
     {
-        // All that is wanted of `len` is its contract: each number stands once.
+        // Read for the prover: the contract of `len` says that each number stands once.
         let _rows = tree.len();
         self.count_refs(target)
     }

@@ -1,4 +1,5 @@
-//! Queues of requests (`tevent_queue`): which there are, whether each runs, and the entries in them, first in first out.
+//! Queues of requests (`tevent_queue`): which there are, whether each runs, and the entries in them, first in first
+//! out.
 #![tactic(auto)]
 
 mod line;

@@ -1,3 +1,4 @@
+//! What is kept of a queue: whether it runs, its two ends, and its length.
 ghost use Rattle.std.specs.Prelude.{◌≡◌, ◌-◌, ◌^◌, ◌<◌, ℕ, Some, cond, nat_eq};
 ghost use Rattle.std.specs.Option.{option_map};
 ghost use Rattle.pool_arena.specs.Arena.{get};
@@ -59,7 +60,7 @@ pub(crate) fn running(lines: &Arena<Line>, queue: u64) -> Option<bool>
     }
 }
 
-/// A queue runs from now on, or it doesn't. Nothing changes where it is none.
+/// Sets whether a queue runs. Nothing changes where it is none.
 pub(crate) fn set_running(lines: &mut Arena<Line>, queue: u64, running: bool)
     ensures lines { (q : ℕ) → get lines.new q ≡ cond (nat_eq queue q) (option_map (run_by running) (get lines.old q)) (get lines.old q) }
     ensures spare { lines.new.spare ≡ lines.old.spare }
@@ -69,7 +70,7 @@ pub(crate) fn set_running(lines: &mut Arena<Line>, queue: u64, running: bool)
     }
 }
 
-/// An entry joins its queue behind all others. Nothing changes where this is none.
+/// Puts an entry into its queue, behind all others. Nothing changes where there is no such queue.
 pub(crate) fn join(lines: &mut Arena<Line>, queue: u64, entry: u64)
     requires { (l : LineData) → get lines.old queue ≡ Some l → l.length < 2 ^ 64 - 1 }
     ensures lines { (q : ℕ) → get lines.new q ≡ cond (nat_eq queue q) (option_map (joined entry) (get lines.old q)) (get lines.old q) }
@@ -85,7 +86,7 @@ pub(crate) fn join(lines: &mut Arena<Line>, queue: u64, entry: u64)
     }
 }
 
-/// An entry with these neighbours leaves its queue. Nothing changes where this is none.
+/// Takes an entry with these neighbours out of its queue. Nothing changes where there is no such queue.
 pub(crate) fn leave(lines: &mut Arena<Line>, queue: u64, sides: Sides)
     requires { (l : LineData) → get lines.old queue ≡ Some l → 0 < l.length }
     ensures lines { (q : ℕ) → get lines.new q ≡ cond (nat_eq queue q) (option_map (left sides) (get lines.old q)) (get lines.old q) }

@@ -1,3 +1,4 @@
+//! What is kept of an entry: its queue, its request and its trigger, and its neighbours in the queue.
 ghost use Rattle.std.specs.Prelude.{◌≡◌, ℕ, cond, nat_eq};
 ghost use Rattle.std.specs.FinMap as map;
 ghost use Rattle.std.specs.Option.{option_map};
@@ -17,7 +18,7 @@ pub(crate) struct Node {
     pub sides: Sides,
 }
 
-/// An entry has another neighbour. Nothing changes where none is given, or where that is no entry.
+/// Notes another neighbour of an entry. Nothing changes where none is given, or where that is no entry.
 pub(crate) fn set_link(nodes: &mut Arena<Node>, at: Option<u64>, link: Link)
     ensures nodes { (q : ℕ) → get nodes.new q ≡ cond (is_at at q) (option_map (with_link link) (get nodes.old q)) (get nodes.old q) }
     ensures len { map.len nodes.new.pairs ≡ map.len nodes.old.pairs }
@@ -30,7 +31,7 @@ pub(crate) fn set_link(nodes: &mut Arena<Node>, at: Option<u64>, link: Link)
     }
 }
 
-/// The trigger of an entry begins. None exactly where it is none.
+/// Begins the trigger of an entry. None exactly where it is none.
 pub(crate) fn begin(nodes: &mut Arena<Node>, entry: u64) -> Option<Turn>
     ensures turn { result ≡ option_map turn_in (get nodes.old entry) }
     ensures nodes { (q : ℕ) → get nodes.new q ≡ cond (nat_eq entry q) (option_map begun (get nodes.old q)) (get nodes.old q) }

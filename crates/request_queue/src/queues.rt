@@ -1,4 +1,10 @@
-//! All queues, and the entries in them.
+//! `Queues`: which queues there are, whether each runs, and its entries in the order in which they came. An entry, and
+//! the first one of a queue, are found in the same time however many there are.
+//!
+//! Contracts see the queues and the entries by their numbers (`Register`), and for how many more there is memory
+//! (`spare`). Nothing runs here: a call says whether its queue is to come soon, and `trigger` gives what runs then.
+//!
+//! Read on in `line.rt`, which has the ends of each queue, and in `node.rt`, which has its entries.
 ghost use Rattle.std.specs.Prelude.{◌≡◌};
 ghost use Rattle.std.specs.Option.{option_map};
 ghost use Rattle.pool_arena.specs.Arena.{get};
@@ -13,7 +19,8 @@ use std::marker::Model;
 use tree_specs::{Handler, Memory, Obj, QueueEntry};
 
 /// All queues, and the entries in them, each found in the same time however many there are. Contracts see them by their
-/// numbers, and spare: so many queues and so many entries can be added without taking memory.
+/// numbers, and spare: so many queues and so many entries can be added without taking memory. Only `reserve` takes
+/// memory.
 #[derive(Drop)]
 pub struct Queues {
     /// Under the numbers of the queues.
@@ -41,7 +48,7 @@ pub struct Turn {
     pub trigger: Handler,
 }
 
-// The object of this number, where there is one.
+/// The object of this number, where there is one.
 fn obj(number: Option<u64>) -> Option<Obj>
     ensures { result ≡ option_map numbered number }
 {
@@ -51,7 +58,7 @@ fn obj(number: Option<u64>) -> Option<Obj>
     }
 }
 
-// The first entry of a queue that runs, where its trigger hasn't begun.
+/// The first entry of a queue that runs, where its trigger hasn't begun.
 fn next_in(lines: &Arena<Line>, nodes: &Arena<Node>, queue: u64) -> Option<u64>
     ensures { result ≡ next_number (get nodes.now) (get lines.now queue) }
 {
@@ -73,7 +80,7 @@ impl Queues {
     ghost use Rattle.request_queue.specs.Linked.{queue_of};
     ghost use Rattle.request_queue.specs.Register.{IsAbove, looked_for, starts_next, started, object_of, turn_of, triggered_by};
 
-    /// No queues. It takes no memory.
+    /// No queues.
     pub fn new(alloc: Global) -> Queues
         ensures { result.queues ≡ no_queues }
     {
@@ -94,7 +101,7 @@ impl Queues {
         Ok(())
     }
 
-    /// A new queue, which runs (`tevent_queue_create`). It takes no memory.
+    /// Adds a queue, which runs (`tevent_queue_create`).
     pub fn add_queue(&mut self, q: Obj)
         requires new { running_of self.old.queues q ≡ None }
         requires room { 0 < self.old.spare }
@@ -112,8 +119,9 @@ impl Queues {
         );
     }
 
-    /// A new entry of a queue, behind all others (`tevent_queue_add_entry`); its number is above those of all entries. It takes
-    /// no memory. Answers whether the queue runs and its first entry waits for its trigger, so that the queue is to come soon.
+    /// Adds an entry to a queue, behind all others (`tevent_queue_add_entry`); its number is above those of all
+    /// entries. Answers whether the queue runs and its first entry waits for its trigger, so that the queue is to come
+    /// soon.
     pub fn add_entry(&mut self, q: Obj, e: Obj, request: Obj, trigger: Handler) -> bool
         requires queue { has_queue self.old.queues q ≡ true }
         requires newest { IsAbove e self.old.queues.entries }
@@ -132,7 +140,7 @@ impl Queues {
         self.waits(q)
     }
 
-    // A new entry comes into its queue behind all others.
+    /// Puts a new entry into its queue, behind all others.
     fn put_in(&mut self, e: Obj, entry: QueueEntry)
         requires queue { has_queue self.old.queues entry.queue ≡ true }
         requires newest { IsAbove e self.old.queues.entries }
@@ -144,12 +152,12 @@ impl Queues {
         set_link(&mut self.nodes, older, Link::Newer(Some(e.0)));
         let sides = Sides { newer: None, older };
         self.nodes.add(e.0, Node { entry, sides });
-        // All that is wanted of `len` is its contract: the entries, and so those of the queue, can be counted.
+        // Read for the prover: the contract of `len` says that the entries, and so those of the queue, can be counted.
         let _entries = self.nodes.len();
         join(&mut self.lines, entry.queue.0, e.0);
     }
 
-    // An entry leaves its queue, which is given. None exactly where it is no entry; nothing changes then.
+    /// Takes an entry out of its queue, which is given. None exactly where it is no entry; nothing changes then.
     fn take_out(&mut self, e: Obj) -> Option<Obj>
         ensures result { result ≡ option_map queue_of (entry_of self.old.queues e) }
         ensures queues { self.new.queues ≡ without_entry self.old.queues e }
@@ -162,8 +170,8 @@ impl Queues {
         Some(entry.queue)
     }
 
-    /// An entry leaves its queue. Nothing changes where it is none. Answers the queue, where it runs and its first entry then
-    /// waits for its trigger, so that the queue is to come soon.
+    /// Takes an entry out of its queue. Nothing changes where it is none. Answers the queue, where it runs and its
+    /// first entry then waits for its trigger, so that the queue is to come soon.
     pub fn remove_entry(&mut self, e: Obj) -> Option<Obj>
         ensures result { result ≡ looked_for self.new.queues (entry_of self.old.queues e) }
         ensures queues { self.new.queues ≡ without_entry self.old.queues e }
@@ -173,7 +181,7 @@ impl Queues {
         if self.waits(queue) { Some(queue) } else { None }
     }
 
-    // A queue runs from now on, or it doesn't. Nothing changes where it is none.
+    /// Sets whether a queue runs. Nothing changes where it is none.
     fn run(&mut self, q: Obj, running: bool)
         ensures queues { self.new.queues ≡ run_as self.old.queues q running }
         ensures spare { self.new.spare ≡ self.old.spare }
@@ -181,7 +189,7 @@ impl Queues {
         set_running(&mut self.lines, q.0, running);
     }
 
-    /// A queue runs from now on (`tevent_queue_start`). Nothing changes where it runs already, or is none. Answers whether it
+    /// Starts a queue (`tevent_queue_start`). Nothing changes where it runs already, or is none. Answers whether it
     /// didn't run and its first entry waits for its trigger, so that the queue is to come soon.
     pub fn start(&mut self, q: Obj) -> bool
         ensures result { result ≡ starts_next self.old.queues q }
@@ -195,7 +203,7 @@ impl Queues {
         self.waits(q)
     }
 
-    /// A queue doesn't run from now on (`tevent_queue_stop`). Nothing changes where it is none.
+    /// Stops a queue (`tevent_queue_stop`). Nothing changes where it is none.
     pub fn stop(&mut self, q: Obj)
         ensures queues { self.new.queues ≡ run_as self.old.queues q false }
         ensures spare { self.new.spare ≡ self.old.spare }
@@ -210,7 +218,7 @@ impl Queues {
         obj(oldest(&self.lines, q.0))
     }
 
-    // The first entry of a queue that runs, where its trigger hasn't begun. None exactly where there is no such entry.
+    /// The first entry of a queue that runs, where its trigger hasn't begun. None exactly where there is no such entry.
     fn next(&self, q: Obj) -> Option<Obj>
         ensures { result ≡ option_map object_of (next_of self.now.queues q) }
     {
@@ -224,8 +232,8 @@ impl Queues {
         self.next(q).is_some()
     }
 
-    /// The trigger of a queue's first entry begins, where the queue runs and it hasn't begun (`tevent_queue_trigger_fn_t`).
-    /// None exactly where there is no such entry.
+    /// Begins the trigger of a queue's first entry, where the queue runs and the trigger hasn't begun
+    /// (`tevent_queue_trigger_fn_t`). None exactly where there is no such entry.
     pub fn trigger(&mut self, q: Obj) -> Option<Turn>
         ensures turn { result ≡ option_map turn_of (next_of self.old.queues q) }
         ensures queues { self.new.queues ≡ triggered_by (next_of self.old.queues q) self.old.queues }
@@ -274,7 +282,7 @@ impl Queues {
         running(&self.lines, q.0)
     }
 
-    /// A queue is no more. It has no entries. Nothing changes where it is none.
+    /// Forgets a queue, which has no entries. Nothing changes where it is none.
     pub fn forget_queue(&mut self, q: Obj)
         requires { has_entries self.old.queues q ≡ false }
         ensures queues { self.new.queues ≡ without_queue self.old.queues q }

@@ -1,4 +1,9 @@
-//! The notes of all requests.
+//! `Requests`: what is kept of each request beside its row (`Note`): its state, the number of its failure, the routines
+//! that run for it, and the object that it was made with. A note is found in the same time however many there are.
+//!
+//! Contracts see the notes by the numbers of their requests, and for how many more there is memory (`spare`).
+//!
+//! Nothing runs here: the calls say what is to run, and `working.rt` of `host_core` goes on with it.
 ghost use Rattle.std.specs.Prelude.{◌≡◌};
 ghost use Rattle.tree_specs.specs.Events.Requests.{routine_of, new_note, cleanup_of};
 
@@ -7,8 +12,8 @@ use std::alloc::Global;
 use std::marker::Model;
 use tree_specs::{Handler, Memory, Note, Obj, State};
 
-/// The notes of all requests, each found in the same time however many there are. Contracts see them by the numbers of their
-/// requests, and spare: so many can be added without taking memory.
+/// The notes of all requests, each found in the same time however many there are. Contracts see them by the numbers of
+/// their requests, and spare: so many can be added without taking memory. Only `reserve` takes memory.
 #[derive(Drop)]
 pub struct Requests {
     notes: Arena<Note>,
@@ -61,8 +66,8 @@ fn new_note(child: Obj) -> Note
     }
 }
 
-/// The cleanup that a request's present state wants, with the state's number as its user number. None where it has no
-/// cleanup, or this has run for the state.
+/// The cleanup that is to run for a request's present state, with the state's number as its user number. None where the
+/// request has no cleanup, or this has run for the state.
 fn cleanup_of(note: &Note) -> Option<Handler>
     ensures { result ≡ cleanup_of note.now }
 {
@@ -80,7 +85,7 @@ impl Requests {
     ghost use Rattle.tree_specs.specs.Events.Requests.{no_notes, note_of, is_noted, with_note, without_note, renoted, called_back, deferring, not_deferring, cleaned_by, cleaned, cancelled_by, failed_with, in_state, cleanup_in};
     ghost use Rattle.requests.specs.Register.{AreInOrder, notify_of, left_by, posted_by};
 
-    /// No requests. It takes no memory.
+    /// No requests.
     pub fn new(alloc: Global) -> Requests
         ensures { result.notes ≡ no_notes }
     {
@@ -114,7 +119,7 @@ impl Requests {
         self.notes.get(x.0).copied()
     }
 
-    /// A new request, which is in progress, with the object that it was made with. It takes no memory.
+    /// Adds a request, which is in progress, with the object that it was made with.
     pub fn create(&mut self, x: Obj, child: Obj)
         requires new { note_of self.old.notes x ≡ None }
         requires room { 0 < self.old.spare }
@@ -124,7 +129,7 @@ impl Requests {
         self.notes.add(x.0, new_note(child));
     }
 
-    /// A request is no more. Nothing changes where it is none.
+    /// Forgets a request. Nothing changes where it is none.
     pub fn forget(&mut self, x: Obj)
         ensures notes { self.new.notes ≡ without_note self.old.notes x }
         ensures spare { self.old.spare ≤ self.new.spare }
@@ -132,7 +137,7 @@ impl Requests {
         self.notes.take(x.0);
     }
 
-    /// What is kept of a request is this from now on. Nothing changes where it is none.
+    /// Sets what is kept of a request. Nothing changes where it is none.
     fn set(&mut self, x: Obj, note: Note)
         ensures notes { self.new.notes ≡ renoted (λ before. note) self.old.notes x }
         ensures spare { self.new.spare ≡ self.old.spare }
@@ -142,7 +147,7 @@ impl Requests {
         }
     }
 
-    /// A request goes to a state.
+    /// Sets the state of a request.
     pub fn set_state(&mut self, x: Obj, state: State)
         ensures notes { self.new.notes ≡ renoted (in_state state) self.old.notes x }
         ensures spare { self.new.spare ≡ self.old.spare }
@@ -153,7 +158,7 @@ impl Requests {
         }
     }
 
-    /// The number of a request's failure.
+    /// Sets the number of a request's failure.
     pub fn set_error(&mut self, x: Obj, error: u64)
         ensures notes { self.new.notes ≡ renoted (failed_with error) self.old.notes x }
         ensures spare { self.new.spare ≡ self.old.spare }
@@ -164,8 +169,7 @@ impl Requests {
         }
     }
 
-    /// What runs when a request is over, with a user number; with 0 for the routine nothing does
-    /// (`tevent_req_set_callback`).
+    /// Sets the routine that runs when a request is over, with a user number; 0 is none (`tevent_req_set_callback`).
     pub fn set_callback(&mut self, x: Obj, routine: u32, user: u64)
         ensures notes { self.new.notes ≡ renoted (called_back routine user) self.old.notes x }
         ensures spare { self.new.spare ≡ self.old.spare }
@@ -176,7 +180,7 @@ impl Requests {
         }
     }
 
-    /// What runs when a request goes to a later state than the present one, where 0 is nothing
+    /// Sets the routine that runs when a request goes to a later state than the present one; 0 is none
     /// (`tevent_req_set_cleanup_fn`).
     pub fn set_cleanup(&mut self, x: Obj, routine: u32)
         ensures notes { self.new.notes ≡ renoted (cleaned_by routine) self.old.notes x }
@@ -189,7 +193,7 @@ impl Requests {
         }
     }
 
-    /// What runs to cancel a request, where 0 is nothing (`tevent_req_set_cancel_fn`).
+    /// Sets the routine that cancels a request; 0 is none (`tevent_req_set_cancel_fn`).
     pub fn set_cancel(&mut self, x: Obj, routine: u32)
         ensures notes { self.new.notes ≡ renoted (cancelled_by routine) self.old.notes x }
         ensures spare { self.new.spare ≡ self.old.spare }
@@ -200,7 +204,8 @@ impl Requests {
         }
     }
 
-    /// When a request is over it comes soon, and is notified only then (`tevent_req_defer_callback`).
+    /// Defers the callback of a request: when it is over it comes soon, and is notified only then
+    /// (`tevent_req_defer_callback`).
     pub fn defer(&mut self, x: Obj)
         ensures notes { self.new.notes ≡ renoted deferring self.old.notes x }
         ensures spare { self.new.spare ≡ self.old.spare }
@@ -211,7 +216,8 @@ impl Requests {
         }
     }
 
-    /// The cleanup that a request's present state wants, which counts as run from then on. None exactly where it wants none.
+    /// Gives the cleanup that is to run for a request's present state, which counts as run from then on. None exactly
+    /// where none is to run.
     pub fn to_clean(&mut self, x: Obj) -> Option<Handler>
         ensures result { result ≡ cleanup_in (note_of self.old.notes x) }
         ensures notes { self.new.notes ≡ left_by result self.old.notes x }
@@ -224,7 +230,7 @@ impl Requests {
         Some(cleanup)
     }
 
-    /// What is done where a request is over. One that was to come soon is deferred no more.
+    /// Gives what is done where a request is over. One that was to come soon is deferred no more.
     pub fn to_notify(&mut self, x: Obj) -> Notify
         ensures result { result ≡ notify_of (note_of self.old.notes x) }
         ensures notes { self.new.notes ≡ posted_by result self.old.notes x }

@@ -12,11 +12,11 @@ pub enum Ran {
     Done,
     /// A read failed, and the source counted it.
     ReadFault,
-    /// The line with this number, from 1, is the first that was refused.
+    /// The line with this number, from 1, is the first that was rejected.
     BadSchedule { line: u64, reason: Reason },
     /// A put failed, and the sink counted it.
     WriteFault,
-    /// There was no memory.
+    /// Memory ran out.
     Memory,
 }
 

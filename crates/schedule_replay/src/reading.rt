@@ -84,7 +84,7 @@ impl Replay {
         Ok(())
     }
 
-    /// Refuses the line that has begun.
+    /// Rejects the line that has begun.
     fn refuse(&mut self, reason: Reason) -> Result<(), Stop>
         ensures refused { RefusesHere (reading_of self.old) (reading_of self.new) reason result }
         ensures number { self.new.number ≡ self.old.number }
@@ -126,8 +126,8 @@ impl Replay {
         written
     }
 
-    /// Gives a call, which the line spells, to the host, whose own caller is asked for it, and writes what it tells. Most lines
-    /// are such calls, so they are known at once, and the open question has no line.
+    /// Gives the host a call, which the line spells and for which the host's own caller is asked, and writes what it
+    /// tells. Most lines are such calls, so they are known at once, and the open question has no line.
     fn call(&mut self, line: &[u8], call: Call) -> Result<(), Stop>
         requires ready { IsBetweenBytes (at_line (reading_of self.old) line.now) }
         requires numbered { self.old.number ≤ lines_limit }
@@ -147,7 +147,7 @@ impl Replay {
         Ok(())
     }
 
-    /// Gives an input, which the line spells, to the host, and writes what it tells.
+    /// Gives the host an input, which the line spells, and writes what it tells.
     #[inline(never)]
     fn answer(&mut self, line: &[u8], input: Input) -> Result<(), Stop>
         requires ready { IsBetweenBytes (at_line (reading_of self.old) line.now) }

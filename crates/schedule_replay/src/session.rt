@@ -95,8 +95,8 @@ fn run<S: Source, K: Sink>(alloc: Global, input: &mut S, out: &mut K) -> Result<
 /// The memory that it takes is that of the rows that exist, of one line and of what 4,096 bytes of the
 /// schedule tell.
 pub fn replay<S: Source, K: Sink>(alloc: Global, input: &mut S, out: &mut K) -> Ran
-    // At the end all is read, no line is refused and the transcript is written; a refused line is the
-    // first one; at a fault, and without memory, a prefix of the transcript is written.
+    // At the end all is read, no line is rejected and the transcript is written; a rejected line is the first one; at a
+    // fault, and when memory runs out, a prefix of the transcript is written.
     ensures replays { IfSome (S.left input.old) (λ bytes. Replays bytes (S.left input.new) (K.held out.old) (K.held out.new) result) }
 
     // What is written of a schedule whose first line is the header is the text of one story, the one over its inputs:
@@ -107,7 +107,7 @@ pub fn replay<S: Source, K: Sink>(alloc: Global, input: &mut S, out: &mut K) -> 
     ensures read { Counts (S.faults input.old) (S.faults input.new) (result ≡ Ran.ReadFault) }
     ensures write { Counts (K.faults out.old) (K.faults out.new) (result ≡ Ran.WriteFault) }
 
-    // Where no line is to be refused and no fault was counted, only memory can be wanting.
+    // Where no line is to be rejected and no fault was counted, the replay is done, or memory ran out.
     ensures complete { IfSome (S.left input.old) (λ bytes. judge bytes ≡ None → (Rose (S.faults input.old) (S.faults input.new) → ⊥) →
         (Rose (K.faults out.old) (K.faults out.new) → ⊥) → (result ≡ Ran.Done) ⊎ (result ≡ Ran.Memory)) }
 {

@@ -12,10 +12,11 @@ use tree_specs::{Memory, Reason};
 pub enum Stop {
     /// A read failed.
     Read,
-    /// The line with this number, from 1, was refused.
+    /// The line with this number, from 1, was rejected.
     Refused { line: u64, reason: Reason },
     /// A put failed.
     Write,
+    /// Memory ran out.
     Memory,
 }
 

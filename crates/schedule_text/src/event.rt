@@ -1,3 +1,4 @@
+//! Writing an event as its lines.
 ghost use Rattle.std.specs.Prelude.{◌++◌, ◌∷◌, [], codes};
 ghost use Rattle.tree_specs.specs.declared.event.Event.TheVariants as events;
 ghost use Rattle.tree_specs.specs.Texts.Text.{event_text};
@@ -8,7 +9,7 @@ use crate::reply::write_reply;
 use text_forms::write_numbers;
 use tree_specs::{Event, Memory, Obj, What};
 
-// A routine begins to run.
+/// Appends the line that tells that a routine begins to run.
 #[tactic(auto, unfolding(tree_specs::specs::Texts::Text::event_text))]
 fn write_fired(what: What, object: Obj, routine: u32, out: &mut Vec<u8>) -> Result<(), Memory>
     ensures { Writes out.old.items out.new.items result (event_text (events.Fired what object routine)) }

@@ -1,3 +1,4 @@
+//! The first line of a schedule, which says what runs the lines that follow.
 ghost use Rattle.std.specs.Prelude.{◌≢◌, Err};
 ghost use Rattle.tree_specs.specs.Texts.Schedule.{mode_of};
 ghost use Rattle.text_forms.specs.Reads.{Reads};

@@ -1,3 +1,4 @@
+//! Reading an input from its line.
 ghost use Rattle.std.specs.Prelude.{◌≡◌, ◌≢◌, ◌++◌, IfOk, IsTrue, Err};
 ghost use Rattle.tree_specs.specs.declared.question.Input.{Input as InputData};
 ghost use Rattle.tree_specs.specs.Texts.Grammar.{alone, input_of};
@@ -14,7 +15,7 @@ use text_forms::{
 };
 use tree_specs::{Act, Input};
 
-// An input that is told by a word alone, which nothing follows.
+/// Reads an input that is told by a word alone, which nothing may follow.
 fn alone_value(text: &[u8], input: Input) -> Result<Input, FormFault>
     ensures { Reads result (alone input text.now) }
 {
@@ -25,7 +26,7 @@ fn alone_value(text: &[u8], input: Input) -> Result<Input, FormFault>
     }
 }
 
-// What a descriptor answered, as the line tells it.
+/// Reads what a descriptor answered, as the line tells it.
 fn heard_value(alloc: Global, line: &[u8]) -> Result<Input, FormFault>
     ensures { Reads result (heard_input_of line.now) }
 {
@@ -48,7 +49,7 @@ fn heard_value(alloc: Global, line: &[u8]) -> Result<Input, FormFault>
     }
 }
 
-// The input that the line spells, as the grammar defines it: its front decides how the rest is read.
+/// Reads the input that the line spells, as the grammar defines it: its front decides how the rest is read.
 #[tactic(auto, unfolding(tree_specs::specs::Texts::Grammar::input_of))]
 fn input_value(alloc: Global, line: &[u8]) -> Result<Input, FormFault>
     ensures { Reads result (input_of line.now) }

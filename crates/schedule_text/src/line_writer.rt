@@ -1,3 +1,4 @@
+//! Writing an input as its line.
 ghost use Rattle.std.specs.Prelude.{◌≡◌, ◌++◌, ℕ, IsTrue, List, Some};
 ghost use Rattle.tree_specs.specs.Texts.Grammar.{input_of};
 ghost use Rattle.tree_specs.specs.Words.Ranges.{is_sound, is_sound_call};
@@ -12,7 +13,7 @@ use text_forms::{
 };
 use tree_specs::{Act, Call, Input, Memory};
 
-// The line of a call after this front.
+/// Appends the line of a call after this front.
 fn write_call_line(front: &[u8], call: &Call, out: &mut Vec<u8>) -> Result<(), Memory>
     requires { IsTrue (is_sound_call call.now) }
     ensures { Writes out.old.items out.new.items result (front.now ++ call_text call.now ++ newline) }
@@ -22,7 +23,7 @@ fn write_call_line(front: &[u8], call: &Call, out: &mut Vec<u8>) -> Result<(), M
     write_pieces(&[b"\n".as_slice()], out)
 }
 
-// The one line of an input.
+/// Appends the one line of an input.
 #[tactic(auto, unfolding(tree_specs::specs::Texts::Text::input_text))]
 fn write_line(input: &Input, out: &mut Vec<u8>) -> Result<(), Memory>
     requires { IsTrue (is_sound input.now) }
@@ -43,7 +44,7 @@ fn write_line(input: &Input, out: &mut Vec<u8>) -> Result<(), Memory>
     }
 }
 
-// Tells that what an input carries are bytes, as its type says.
+/// Tells that what an input carries are bytes, as its type says.
 fn the_bytes_of_an_input_are_bytes(input: &Input)
     ensures { IsTrue (input_has_bytes input.now) }
 {

@@ -1,3 +1,4 @@
+//! Questions written as text, and their lines in a transcript.
 ghost use Rattle.std.specs.Prelude.{◌++◌};
 ghost use Rattle.tree_specs.specs.Texts.Text.{ask_text, answered_text, end_text, newline};
 ghost use Rattle.tree_specs.specs.Texts.Written.{Writes};
@@ -31,7 +32,7 @@ pub fn write_ask(ask: &Ask, out: &mut Vec<u8>) -> Result<(), Memory>
     }
 }
 
-// Appends the line of a question after this front.
+/// Appends the line of a question after this front.
 fn write_line(front: &[u8], ask: &Ask, out: &mut Vec<u8>) -> Result<(), Memory>
     ensures { Writes out.old.items out.new.items result (front.now ++ ask_text ask.now ++ newline) }
 {
@@ -40,8 +41,8 @@ fn write_line(front: &[u8], ask: &Ask, out: &mut Vec<u8>) -> Result<(), Memory>
     write_pieces(&[b"\n".as_slice()], out)
 }
 
-/// Appends the line of a question that was answered, with its LF; Quiet has none. Where memory is
-/// wanted, a prefix of it was appended.
+/// Appends the line of a question that was answered, with its LF; Quiet has none. When memory runs out, a prefix of it
+/// was appended.
 #[tactic(auto, unfolding(tree_specs::specs::Texts::Text::answered_text))]
 pub fn write_answered(ask: &Ask, out: &mut Vec<u8>) -> Result<(), Memory>
     ensures { Writes out.old.items out.new.items result (answered_text ask.now) }
@@ -57,8 +58,8 @@ pub fn write_answered(ask: &Ask, out: &mut Vec<u8>) -> Result<(), Memory>
     }
 }
 
-/// Appends the line of the question that is open at the end, with its LF. When memory runs out, a
-/// front of it was appended.
+/// Appends the line of the question that is open at the end, with its LF. When memory runs out, a prefix of it was
+/// appended.
 #[tactic(auto, unfolding(tree_specs::specs::Texts::Text::end_text))]
 pub fn write_end(ask: &Ask, out: &mut Vec<u8>) -> Result<(), Memory>
     ensures { Writes out.old.items out.new.items result (end_text ask.now) }

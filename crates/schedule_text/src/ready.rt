@@ -12,7 +12,7 @@ use std::alloc::Global;
 use text_forms::{FormFault, read_u32, split_part, split_word, write_number, write_numbers};
 use tree_specs::{Input, Memory, Want, Wants};
 
-// A descriptor and its flags, as the grammar defines them.
+/// Reads a descriptor and its flags, as the grammar defines them.
 fn want_value(word: &[u8]) -> Option<Want>
     ensures { result ≡ want_of word.now }
 {
@@ -24,7 +24,7 @@ fn want_value(word: &[u8]) -> Option<Want>
     })
 }
 
-// The descriptors that the words spell, where they can be ready.
+/// Reads the descriptors that the words spell, where these can be ready.
 fn read_list(alloc: Global, start: Option<&[u8]>) -> Result<Wants, FormFault>
     ensures { Reads result (ready_list_of (words_left start.entry)) }
 {
@@ -38,7 +38,7 @@ fn read_list(alloc: Global, start: Option<&[u8]>) -> Result<Wants, FormFault>
     Wants::make(list).ok_or(FormFault::NoForm)
 }
 
-// The same, with a space before each.
+/// Reads descriptors with a space before each.
 fn read_spaced(alloc: Global, text: &[u8]) -> Result<Wants, FormFault>
     ensures { Reads result (spaced_list_of (words text.now)) }
 {
@@ -50,7 +50,7 @@ fn read_spaced(alloc: Global, text: &[u8]) -> Result<Wants, FormFault>
     }
 }
 
-// What follows the front of the line, as the grammar defines it.
+/// Reads what follows the front of the line, as the grammar defines it.
 #[tactic(auto, using(crate::proofs::Wants::ready_is))]
 pub(crate) fn read_ready(alloc: Global, text: &[u8]) -> Result<Input, FormFault>
     ensures { Reads result (ready_input_of text.now) }
@@ -58,7 +58,7 @@ pub(crate) fn read_ready(alloc: Global, text: &[u8]) -> Result<Input, FormFault>
     read_spaced(alloc, text).map(Input::Ready)
 }
 
-// A descriptor and its flags, with a space before them.
+/// Appends a descriptor and its flags, with a space before them.
 fn write_want(want: Want, out: &mut Vec<u8>) -> Result<(), Memory>
     ensures { Writes out.old.items out.new.items result (want_text want) }
 {
@@ -66,6 +66,7 @@ fn write_want(want: Want, out: &mut Vec<u8>) -> Result<(), Memory>
     write_number(u64::from(want.flags), out)
 }
 
+/// Appends each descriptor with its flags.
 fn write_each(wants: &[Want], out: &mut Vec<u8>) -> Result<(), Memory>
     ensures { Writes out.old.items out.new.items result (wants_text wants.now) }
 {
@@ -75,7 +76,7 @@ fn write_each(wants: &[Want], out: &mut Vec<u8>) -> Result<(), Memory>
     Ok(())
 }
 
-// Appends the line that tells which descriptors are ready.
+/// Appends the line that tells which descriptors are ready.
 pub(crate) fn write_ready(wants: &Wants, out: &mut Vec<u8>) -> Result<(), Memory>
     ensures { Writes out.old.items out.new.items result (codes "ready" ++ wants_text wants.now ++ newline) }
 {

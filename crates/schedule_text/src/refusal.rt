@@ -1,3 +1,4 @@
+//! Writing a refusal as its line.
 ghost use Rattle.std.specs.Prelude.{◌++◌, codes};
 ghost use Rattle.tree_specs.specs.Texts.Text.{newline, numbers_text, refusal_numbers};
 ghost use Rattle.tree_specs.specs.Texts.Written.{Writes};
@@ -5,14 +6,14 @@ ghost use Rattle.tree_specs.specs.Texts.Written.{Writes};
 use text_forms::write_numbers;
 use tree_specs::{Memory, Refusal};
 
-// Appends the line of a refusal with these numbers.
+/// Appends the line of a refusal with these numbers.
 fn write_no(numbers: &[u64], out: &mut Vec<u8>) -> Result<(), Memory>
     ensures { Writes out.old.items out.new.items result (codes "reply no" ++ numbers_text numbers.now ++ newline) }
 {
     write_numbers(b"reply no", numbers, b"\n", out)
 }
 
-// Appends the line of a refusal: its number, and what it carries.
+/// Appends the line of a refusal: its number, and what it carries.
 #[tactic(auto, unfolding(tree_specs::specs::Texts::Text::refusal_numbers))]
 pub(crate) fn write_refusal(why: Refusal, out: &mut Vec<u8>) -> Result<(), Memory>
     ensures { Writes out.old.items out.new.items result (codes "reply no" ++ numbers_text (refusal_numbers why) ++ newline) }

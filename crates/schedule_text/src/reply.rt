@@ -1,3 +1,4 @@
+//! Writing a reply as its lines.
 ghost use Rattle.tree_specs.specs.declared.reply.Reply.TheVariants as replies;
 ghost use Rattle.tree_specs.specs.Texts.Text.{reply_text};
 ghost use Rattle.tree_specs.specs.Texts.Written.{Writes};
@@ -6,7 +7,7 @@ use crate::refusal::write_refusal;
 use text_forms::{write_numbers, write_octets, write_pieces, write_report_rows};
 use tree_specs::{Memory, Reply, ReportRows};
 
-// Appends the lines of a report, and then the line that tells how many they are.
+/// Appends the lines of a report, and then the line that tells how many they are.
 fn write_report(report: &ReportRows, out: &mut Vec<u8>) -> Result<(), Memory>
     ensures { Writes out.old.items out.new.items result (reply_text (replies.Rows report.now)) }
 {
@@ -15,8 +16,8 @@ fn write_report(report: &ReportRows, out: &mut Vec<u8>) -> Result<(), Memory>
     write_numbers(b"reply rows", &[rows.len() as u64], b"\n", out)
 }
 
-/// Appends a reply as its line, with its LF; a report is the lines of its rows and then that of the reply. When memory runs out,
-/// a prefix of it was appended.
+/// Appends a reply as its line, with its LF; a report is the lines of its rows and then that of the reply. When memory
+/// runs out, a prefix of it was appended.
 #[inline(always)]
 #[tactic(auto, unfolding(tree_specs::specs::Texts::Text::reply_text))]
 pub fn write_reply(reply: &Reply, out: &mut Vec<u8>) -> Result<(), Memory>

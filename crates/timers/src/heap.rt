@@ -23,7 +23,7 @@ fn comes_before(due: Due, other: Due) -> bool
     due.time < other.time || (due.time == other.time && due.number < other.number)
 }
 
-// The object of this number is at another place. Nothing changes where it isn't held.
+/// Notes the place of the object with this number. Nothing changes where it isn't held.
 fn note(places: &mut Arena<usize>, x: u64, at: usize)
     ensures places { (q : ℕ) → get places.new q ≡ cond (nat_eq x q) (option_map (λ _. at) (get places.old q)) (get places.old q) }
     ensures spare { places.new.spare ≡ places.old.spare }
@@ -33,7 +33,7 @@ fn note(places: &mut Arena<usize>, x: u64, at: usize)
     }
 }
 
-// A time goes to a place, in place of the one that was there.
+/// Puts a time at a place, in place of the one that was there.
 fn put(dues: &mut Vec<Due>, places: &mut Arena<usize>, at: usize, due: Due)
     requires { at < length dues.old.items }
     ensures dues { dues.new.items ≡ set dues.old.items at due }
@@ -45,7 +45,7 @@ fn put(dues: &mut Vec<Due>, places: &mut Arena<usize>, at: usize, due: Due)
     note(places, due.object.0, at);
 }
 
-// The parent of a place, where the one that is to go there comes before it.
+/// The parent of a place, where the one that is to go there comes before it.
 fn late_parent(dues: &Vec<Due>, at: usize, due: Due) -> Option<usize>
     requires { at < length dues.now.items }
     ensures { IsLateParent (slice_get dues.now.items) at due result }
@@ -61,7 +61,7 @@ fn late_parent(dues: &Vec<Due>, at: usize, due: Due) -> Option<usize>
     }
 }
 
-// Of a place and the next one, the one whose time comes first.
+/// Of a place and the next one, the one whose time comes first.
 fn first_of_two(dues: &Vec<Due>, left: usize) -> usize
     requires { left < length dues.now.items }
     ensures { IsFirstOfTwo (slice_get dues.now.items) left result }
@@ -73,7 +73,7 @@ fn first_of_two(dues: &Vec<Due>, left: usize) -> usize
     left
 }
 
-// The child of a place that comes first, where it comes before the one that is to go there.
+/// The child of a place that comes first, where it comes before the one that is to go there.
 fn early_child(dues: &Vec<Due>, at: usize, due: Due) -> Option<usize>
     requires { at < length dues.now.items }
     ensures { IsEarlyChild (slice_get dues.now.items) at due result }
@@ -89,7 +89,7 @@ fn early_child(dues: &Vec<Due>, at: usize, due: Due) -> Option<usize>
     }
 }
 
-// The next place on the way, where the time there and the one that is to go to this place are out of order.
+/// The next place on the way, where the time there and the one that is to go to this place are out of order.
 fn next_place(dues: &Vec<Due>, way: Way, at: usize, due: Due) -> Option<usize>
     requires { at < length dues.now.items }
     ensures { IsNext way (slice_get dues.now.items) at due result }
@@ -100,7 +100,7 @@ fn next_place(dues: &Vec<Due>, way: Way, at: usize, due: Due) -> Option<usize>
     }
 }
 
-/// A time goes to a place or to one further on the way, where nothing is out of order but this time with those there.
+/// Puts a time at a place or at one further on the way, where nothing is out of order but this time with those there.
 pub(crate) fn sift(dues: &mut Vec<Due>, places: &mut Arena<usize>, way: Way, at: usize, due: Due)
     requires at { at < length dues.old.items }
     requires held { IsSome (get places.old due.object.0) }
@@ -120,7 +120,7 @@ pub(crate) fn sift(dues: &mut Vec<Due>, places: &mut Arena<usize>, way: Way, at:
     }
 }
 
-// The way that a time has to go from a place where it may be out of order with its parent and with its children.
+/// The way that a time has to go from a place where it may be out of order with its parent and with its children.
 fn way_from(dues: &Vec<Due>, at: usize, due: Due) -> Way
     requires { at < length dues.now.items }
     ensures { Settles (slice_get (set dues.now.items at due)) at → Sifts result (slice_get (set dues.now.items at due)) at }
@@ -132,7 +132,7 @@ fn way_from(dues: &Vec<Due>, at: usize, due: Due) -> Way
     }
 }
 
-// A time goes to a place, or to where it belongs above or below it.
+/// Puts a time at a place, or where it belongs above or below it.
 fn settle(dues: &mut Vec<Due>, places: &mut Arena<usize>, at: usize, due: Due)
     requires at { at < length dues.old.items }
     requires held { IsSome (get places.old due.object.0) }
@@ -146,7 +146,7 @@ fn settle(dues: &mut Vec<Due>, places: &mut Arena<usize>, at: usize, due: Due)
     sift(dues, places, way, at, due);
 }
 
-/// The time at a place goes, whose object isn't held any more, and the last one comes to where it belongs.
+/// Takes out the time at a place, whose object isn't held any more. The last one comes to where it belongs.
 pub(crate) fn take_out(dues: &mut Vec<Due>, places: &mut Arena<usize>, at: usize)
     requires at { at < length dues.old.items }
     requires heap { IsHeap (slice_get dues.old.items) }

@@ -1,3 +1,8 @@
+//! `Times`: the objects whose time is to come, which are timers and requests with an end time. The time that comes
+//! first is at hand; to set or to remove a time takes as many steps as the logarithm of how many there are.
+//!
+//! Contracts see the list of times, in the order of time and then of number, and for how many more there is memory
+//! (`spare`). What is kept is a heap: read on in `heap.rt`.
 ghost use Rattle.std.specs.Prelude.{◌≡◌};
 
 use crate::heap::{Way, sift, take_out};
@@ -7,7 +12,7 @@ use std::marker::Model;
 use tree_specs::{Due, Memory, Obj};
 
 /// The objects whose time comes: timers, and requests with an end time. Contracts see the list of them, in the order of
-/// time and then number, and spare: so many can be added without taking memory.
+/// time and then number, and spare: so many can be added without taking memory. Only `reserve` takes memory.
 #[derive(Drop)]
 pub struct Times {
     /// A heap: none comes before its parent.
@@ -35,7 +40,7 @@ impl Times {
     ghost use Rattle.tree_specs.specs.Events.Pending.{armed, disarmed, is_armed, is_numbered, put_in};
     ghost use Rattle.timers.specs.Timetable.{AreInOrder, AreOnce};
 
-    /// No times. It takes no memory.
+    /// No times.
     pub fn new(alloc: Global) -> Times
         ensures { result.dues ≡ [] }
     {
@@ -45,7 +50,7 @@ impl Times {
         }
     }
 
-    /// Takes memory for so many more times. After want of memory they are as they were.
+    /// Takes memory for so many more times. If memory runs out, they are as they were.
     pub fn reserve(&mut self, more: usize) -> Result<(), Memory>
         ensures dues { self.new.dues ≡ self.old.dues }
         ensures spare { OnOk result (more ≤ self.new.spare) }
@@ -56,7 +61,7 @@ impl Times {
         Ok(())
     }
 
-    // The time of an object that has none is to come.
+    /// Adds the time of an object that has none.
     fn enter(&mut self, due: Due)
         requires room { 0 < self.old.spare }
         requires absent { is_armed self.old.dues due.object ≡ false }
@@ -70,8 +75,8 @@ impl Times {
         sift(&mut self.dues, &mut self.places, Way::Up, at, due);
     }
 
-    /// The time of an object is to come, in microseconds; it takes the place of a time that it had. At equal times the
-    /// smaller number comes first, and no other time has this number. It takes no memory.
+    /// Sets the time of an object, in microseconds, in place of a time that it had. At equal times the smaller number
+    /// comes first, and no other time has this number.
     pub fn arm(&mut self, x: Obj, time: u64, number: u64)
         requires room { 0 < self.old.spare }
         requires number { is_numbered (disarmed self.old.dues x) number ≡ false }
@@ -87,7 +92,7 @@ impl Times {
         });
     }
 
-    /// The time of an object doesn't come any more. Answers whether it had one.
+    /// Removes the time of an object. Answers whether it had one.
     pub fn disarm(&mut self, x: Obj) -> bool
         ensures result { result ≡ is_armed self.old.dues x }
         ensures dues { self.new.dues ≡ disarmed self.old.dues x }
@@ -100,7 +105,7 @@ impl Times {
         true
     }
 
-    // The time that comes first. None exactly where there is none.
+    /// The time that comes first. None exactly where there is none.
     fn earliest(&self) -> Option<Due>
         ensures first { result ≡ slice_get self.now.dues 0 }
         ensures once { AreOnce self.now.dues }

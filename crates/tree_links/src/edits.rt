@@ -1,4 +1,4 @@
-//! What of a row is written anew where it stands.
+//! Changes of a row where it stands: its name, mark, destructor, size and limit.
 use crate::node::Edit;
 use crate::tree::Tree;
 use tree_specs::{Mark, Name, Obj};

@@ -1,4 +1,5 @@
-//! The rows of the tree: who owns whom, the order in which children stand, a walk over what is below an owner, and sums over it.
+//! The rows of the tree: who owns whom, the order in which children stand, a walk over what is below an owner, and sums
+//! over it.
 #![tactic(auto)]
 
 mod edits;

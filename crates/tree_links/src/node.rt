@@ -1,3 +1,4 @@
+//! What is kept of an object: its row, and its neighbours in the two lanes that it stands in.
 ghost use Rattle.std.specs.Prelude.{◌≡◌, ◌≤◌, ℕ, Option, Some, None, cond, true, false, nat_eq, List, ◌∷◌, is_some};
 ghost use Rattle.std.specs.Option.{option_map, option_and_then};
 ghost use Rattle.std.specs.FinMap as map;
@@ -34,6 +35,7 @@ enum Lane {
     Kin,
 }
 
+/// Notes another neighbour of a node in a lane.
 fn note(node: &mut Node, lane: Lane, link: Link)
     ensures { node.new ≡ with_link lane link node.old }
 {
@@ -43,7 +45,7 @@ fn note(node: &mut Node, lane: Lane, link: Link)
     }
 }
 
-// The node at this place, if there is one, notes another neighbour in a lane.
+/// Notes another neighbour of the node with this number in a lane. Nothing changes where there is no such node.
 fn set_link(nodes: &mut Arena<Node>, at: Option<u64>, lane: Lane, link: Link)
     ensures nodes { (q : ℕ) → get nodes.new q ≡ cond (is_at at q) (option_map (with_link lane link) (get nodes.old q)) (get nodes.old q) }
     ensures len { map.len nodes.new.pairs ≡ map.len nodes.old.pairs }
@@ -56,7 +58,7 @@ fn set_link(nodes: &mut Arena<Node>, at: Option<u64>, lane: Lane, link: Link)
     }
 }
 
-// Another first child. Gives the one before.
+/// Sets the first child of an object, and gives the one before.
 fn set_first(nodes: &mut Arena<Node>, x: u64, first: Option<u64>) -> Option<u64>
     ensures former { result ≡ option_and_then first_in (get nodes.old x) }
     ensures nodes { (q : ℕ) → get nodes.new q ≡ cond (nat_eq x q) (option_map (with_first first) (get nodes.old q)) (get nodes.old q) }
@@ -69,7 +71,7 @@ fn set_first(nodes: &mut Arena<Node>, x: u64, first: Option<u64>) -> Option<u64>
     former
 }
 
-/// One with these neighbours leaves the lane of all rows.
+/// Takes a row with these neighbours out of the lane of all rows.
 pub(crate) fn leave_placed(nodes: &mut Arena<Node>, front: &mut Option<u64>, sides: Sides)
     ensures rows { (q : ℕ) → row_at nodes.new.pairs q ≡ row_at nodes.old.pairs q }
     ensures linked { (root : Option ℕ) (A : List ℕ) (K : OwnerData → List ℕ) (x : ℕ) → Distinct A → has A x ≡ true → sides ≡ sides_in A x → Linked nodes.old.pairs front.old root A K → Linked nodes.new.pairs front.new root (without A x) K }
@@ -94,7 +96,7 @@ pub(crate) fn head(nodes: &Arena<Node>, root: Option<u64>, owner: Owner) -> Opti
     }
 }
 
-/// The first child of an owner is another one. Gives the one before.
+/// Sets the first child of an owner, and gives the one before.
 pub(crate) fn set_head(
     nodes: &mut Arena<Node>,
     root: &mut Option<u64>,
@@ -119,6 +121,7 @@ pub(crate) fn set_head(
     }
 }
 
+/// Sets the first child of an owner, where the one with these neighbours was the first and leaves.
 fn mend_head(nodes: &mut Arena<Node>, root: &mut Option<u64>, owner: Owner, sides: Sides)
     ensures rows { (q : ℕ) → row_at nodes.new.pairs q ≡ row_at nodes.old.pairs q }
     ensures placed { (q : ℕ) → placed_at nodes.new.pairs q ≡ placed_at nodes.old.pairs q }
@@ -135,7 +138,7 @@ fn mend_head(nodes: &mut Arena<Node>, root: &mut Option<u64>, owner: Owner, side
     }
 }
 
-/// One with these neighbours leaves the lane of an owner's children.
+/// Takes a row with these neighbours out of the lane of an owner's children.
 pub(crate) fn leave_kin(nodes: &mut Arena<Node>, root: &mut Option<u64>, owner: Owner, sides: Sides)
     ensures rows { (q : ℕ) → row_at nodes.new.pairs q ≡ row_at nodes.old.pairs q }
     ensures linked { (front : Option ℕ) (A : List ℕ) (K : OwnerData → List ℕ) (x : ℕ) → Distinct (K owner) → has (K owner) x ≡ true → sides ≡ sides_in (K owner) x → Apart K owner → Linked nodes.old.pairs front root.old A K → Linked nodes.new.pairs front root.new A (λ p. without (K p) x) }
@@ -147,7 +150,7 @@ pub(crate) fn leave_kin(nodes: &mut Arena<Node>, root: &mut Option<u64>, owner: 
     mend_head(nodes, root, owner, sides);
 }
 
-/// One with these neighbours leaves the lane of its owner's children, if it has an owner.
+/// Takes a row with these neighbours out of the lane of its owner's children, if it has an owner.
 pub(crate) fn leave_kin_of(
     nodes: &mut Arena<Node>,
     root: &mut Option<u64>,
@@ -165,8 +168,8 @@ pub(crate) fn leave_kin_of(
     }
 }
 
-/// A row leaves the lane of all rows and that of its owner's children, and still notes its neighbours there. Answers
-/// whether there is such a row.
+/// Takes a row out of the lane of all rows and out of that of its owner's children. It still notes its neighbours
+/// there. Answers whether there is such a row.
 pub(crate) fn leave_lanes(
     nodes: &mut Arena<Node>,
     front: &mut Option<u64>,
@@ -190,8 +193,7 @@ pub(crate) fn leave_lanes(
     true
 }
 
-/// A row comes below another owner, in front of these heads of the lane of all rows and of that of the owner's
-/// children.
+/// Puts a row below another owner, in front of these heads of the lane of all rows and of that of the owner's children.
 pub(crate) fn enter(
     nodes: &mut Arena<Node>,
     x: u64,
@@ -216,7 +218,7 @@ pub(crate) fn enter(
     }
 }
 
-/// The heads of two lanes get a newer neighbour, which has entered in front of them.
+/// Notes at the heads of two lanes a newer neighbour, which has entered in front of them.
 #[inline(always)]
 pub(crate) fn meet_newer(nodes: &mut Arena<Node>, front: Option<u64>, first: Option<u64>, x: u64)
     ensures rows { (q : ℕ) → row_at nodes.new.pairs q ≡ row_at nodes.old.pairs q }
@@ -228,8 +230,8 @@ pub(crate) fn meet_newer(nodes: &mut Arena<Node>, front: Option<u64>, first: Opt
     set_link(nodes, first, Lane::Kin, Link::Newer(Some(x)));
 }
 
-/// A row has left its owner. Gives that owner, and its neighbours among the owner's children, which still note it.
-/// None exactly where there is no such node.
+/// Marks a row as one that has left its owner. Gives that owner, and its neighbours among the owner's children, which
+/// still note it. None exactly where there is no such node.
 pub(crate) fn set_left(nodes: &mut Arena<Node>, x: u64) -> Option<(Option<Owner>, Sides)>
     ensures former { result ≡ option_map owned_in (get nodes.old x) }
     ensures nodes { (q : ℕ) → get nodes.new q ≡ cond (nat_eq x q) (option_map (with_row left_row) (get nodes.old q)) (get nodes.old q) }
@@ -257,6 +259,7 @@ pub(crate) enum Edit {
     Limit(u64),
 }
 
+/// Writes this of a row anew.
 fn rewrite(row: &mut Row, edit: Edit)
     ensures { row.new ≡ edited edit row.old }
 {
@@ -280,7 +283,7 @@ pub(crate) fn write(nodes: &mut Arena<Node>, x: u64, what: Edit)
     }
 }
 
-/// There is no such node any more.
+/// Takes a node out.
 pub(crate) fn forget(nodes: &mut Arena<Node>, x: u64)
     ensures pairs { nodes.new.pairs ≡ map.remove nodes.old.pairs x }
     ensures spare { nodes.old.spare ≤ nodes.new.spare }

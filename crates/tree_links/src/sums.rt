@@ -1,3 +1,4 @@
+//! Sums over what is inside an owner: of sizes, of objects, and of what counts against a limit.
 ghost use Rattle.std.specs.Prelude.{◌≡◌, ◌<◌, Some};
 ghost use Rattle.std.specs.Option.{option_copied};
 ghost use Rattle.tree_specs.specs.Tree.Inside.{size_inside, count_inside};
@@ -11,7 +12,7 @@ ghost use Rattle.tree_links.specs.Weights.{weighed, inside_weight};
 use crate::tree::Tree;
 use tree_specs::{Kind, OVERHEAD, Owner, Row};
 
-/// The row of an owner that is an object.
+/// The row of an owner. None where it is the root, or no object.
 fn row_of(tree: &Tree, owner: Owner) -> Option<&Row>
     ensures row { option_copied result ≡ own_row tree.now.rows owner }
     ensures small { (row : RowData) → own_row tree.now.rows owner ≡ Some row → row.size < size_limit }
@@ -33,6 +34,7 @@ enum Weight {
     Charge,
 }
 
+/// What an object weighs, by its row.
 fn weigh(row: &Row, what: Weight) -> u64
     requires { row.now.size < size_limit }
     ensures { result ≡ weighed what row.now }
@@ -55,7 +57,7 @@ fn own_weight(tree: &Tree, owner: Owner, what: Weight) -> u64
     }
 }
 
-/// The weights of all that is inside an owner together. Most objects own nothing, and no walk is wanted for them.
+/// The weights of all that is inside an owner together. Most objects own nothing, and need no walk.
 fn sum_inside_of(tree: &Tree, from: Owner, what: Weight) -> u64
     ensures sum { result ≡ inside_weight (weighed what) tree.now.rows from }
     ensures sound { IsTree tree.now.rows tree.now.next }
@@ -69,26 +71,24 @@ fn sum_inside_of(tree: &Tree, from: Owner, what: Weight) -> u64
         .sum()
 }
 
-/// The sum of the sizes, in bytes, of an object and of all that it owns, and of all that these own, or of all
-/// that is below the root, as `talloc_total_size` gives it. It is 0 where there is no such object. It takes no
-/// memory.
+/// The sum of the sizes, in bytes, of an object and of all that it owns, and of all that these own, or of all that is
+/// below the root, as `talloc_total_size` gives it. It is 0 where there is no such object.
 pub fn total(tree: &Tree, from: Owner) -> u64
     ensures { result ≡ size_inside tree.now.rows from }
 {
     sum_inside_of(tree, from, Weight::Size)
 }
 
-/// How many objects there are: an object and all that it owns, and all that these own, or all that is below
-/// the root, as `talloc_total_blocks` gives it. References are not counted. It is 0 where there is no such
-/// object. It takes no memory.
+/// How many objects there are: an object and all that it owns, and all that these own, or all that is below the root,
+/// as `talloc_total_blocks` gives it. References are not counted. It is 0 where there is no such object.
 pub fn count(tree: &Tree, from: Owner) -> u64
     ensures { result ≡ count_inside tree.now.rows from }
 {
     sum_inside_of(tree, from, Weight::Number)
 }
 
-/// What the objects inside an owner count against its limit (`talloc_set_memlimit`), in bytes: each its size and 96
-/// more, a reference nothing. It is 0 where there is no such owner. It takes no memory.
+/// What the objects inside an owner count against its limit (`talloc_set_memlimit`), in bytes: each its size and
+/// `OVERHEAD` more, a reference nothing. It is 0 where there is no such owner.
 pub fn sum(tree: &Tree, from: Owner) -> u64
     ensures { result ≡ sum_inside tree.now.rows from }
 {

@@ -1,3 +1,11 @@
+//! `Tree`: the objects, and who owns them. A row, its owner, its first child and the next child after it are found in
+//! the same time however many objects there are.
+//!
+//! Contracts see the list of rows, the one that was placed last first, with the next number; and, kept in the same
+//! value, the works of the open frees. The invariant (`IsTree`) says that each number stands once, that each owner is
+//! the root or a row, and that from owner to owner one comes to an end.
+//!
+//! Read on in `node.rt` (how the rows are linked), `walk.rt` and `sums.rt` (what is inside an owner), and `works.rt`.
 ghost use Rattle.std.specs.Prelude.{◌≡◌};
 ghost use Rattle.tree_links.specs.Nodes.{next_in};
 
@@ -41,7 +49,7 @@ impl Model for Tree {
     ghost invariant = { λ t. IsLinked t.nodes.pairs t.front t.root t.next };
 }
 
-// The child of the same owner that was placed last before this one, where it has an owner.
+/// The child of the same owner that was placed last before this one, where it has an owner.
 fn next_in(node: &Node) -> Option<Obj>
     ensures { result ≡ next_in node.now }
 {
@@ -76,9 +84,9 @@ impl Tree {
         }
     }
 
-    /// Takes memory for so many more rows, and for the works of all frees that these and the present rows can
-    /// want until the next destructor runs: one for each of them, and two. If memory runs out, rows and works
-    /// are as they were.
+    /// Takes memory for so many more rows, and for the works of all frees that these and the present rows can need
+    /// until the next destructor runs: one for each of them, and two. If memory runs out, rows and works are as they
+    /// were.
     pub fn reserve(&mut self, rows: usize) -> Result<(), Memory>
         ensures rows { pool_of self.new ≡ pool_of self.old }
         ensures spare { OnOk result (rows ≤ self.new.spare) }
@@ -243,6 +251,7 @@ impl Tree {
         is_below(self.parent(x), owner)
     }
 
+    /// The owner above an owner. None at the root, and where there is no such object.
     fn next_owner(&self, owner: Owner) -> Option<Owner>
         ensures { result ≡ owner_after self.now.rows owner }
     {
@@ -252,7 +261,7 @@ impl Tree {
         }
     }
 
-    // Whether one comes from owner to owner to another one. It takes as many steps as there are owners above.
+    /// Whether one comes from `from` to `to`, from owner to owner. It takes as many steps as there are owners above.
     fn leads_to(&self, from: Owner, to: Owner) -> bool
         ensures { result ≡ is_inside_of self.now.rows from to }
     {
@@ -317,7 +326,7 @@ impl Tree {
         write(&mut self.nodes, x.0, edit);
     }
 
-    /// The object leaves its owner, and is dying of it from then on.
+    /// Lets an object leave its owner. It is dying from then on.
     pub fn detach(&mut self, x: Obj)
         requires is { is_row self.old.rows x ≡ true }
         requires live { is_dying self.old.rows x ≡ false }
@@ -330,7 +339,7 @@ impl Tree {
         }
     }
 
-    /// The object is no more: it is dying and owns nothing, or is a reference.
+    /// Removes an object, which is dying and owns nothing, or is a reference.
     pub fn remove(&mut self, x: Obj)
         requires free { may_go self.old.rows x ≡ true }
         requires alone { kid_first self.old.rows (At x) ≡ None }

@@ -1,3 +1,4 @@
+//! A walk over an owner and all that is below it.
 ghost use Rattle.std.specs.Prelude.{◌≡◌, Some};
 ghost use Rattle.tree_links.specs.Links.{IsTree};
 ghost use Rattle.tree_links.specs.Walk.{left, ahead as all_ahead, from_here, walk_from, IsDeep};
@@ -42,7 +43,8 @@ impl Tree {
         ensures sound { IsTree self.now.rows self.now.next }
         ensures places { result ≡ walk_from self.now.rows from }
     {
-        // Where a field is used, it is known that the rows are a tree, so a walk ends.
+        // Read for the prover: where a field is used, the invariant is known, by which the rows are a tree and a walk
+        // ends.
         let _ = &self.works;
         Walk {
             tree: self,

@@ -24,7 +24,7 @@ impl Model for Works {
 }
 
 impl Works {
-    /// No works. It takes no memory.
+    /// No works.
     pub(crate) fn new(alloc: Global) -> Works
         ensures { result.frees ≡ [] }
     {
@@ -50,7 +50,7 @@ impl Works {
         self.frames.last().copied()
     }
 
-    /// Puts a work before the others. It takes no memory.
+    /// Puts a work before the others.
     fn push(&mut self, work: FreeFrame)
         requires { 0 < self.old.room }
         ensures works { self.new.frees ≡ work ∷ self.old.frees }
@@ -79,7 +79,7 @@ impl Tree {
         self.works.innermost()
     }
 
-    /// Puts a work before those that wait. It takes no memory.
+    /// Puts a work before those that wait.
     pub fn push_free(&mut self, work: FreeFrame)
         requires { 0 < self.old.room }
         ensures rows { pool_of self.new ≡ pool_of self.old }

@@ -1,3 +1,4 @@
+//! The rows of a report, made by a walk over what is inside an owner.
 ghost use Rattle.std.specs.Prelude.{◌≡◌, ◌++◌, IfOk, OnOk, ℕ, List};
 ghost use Rattle.std.specs.Option.{option_to_list};
 ghost use Rattle.tree_specs.specs.Tree.Reports.{report, report_row, row_kind, target_number};
@@ -10,6 +11,7 @@ use std::alloc::Global;
 use tree_links::Tree;
 use tree_specs::{Kind, Memory, Name, Owner, ReportRow, ReportRows, Row, RowKind};
 
+/// The kind of an object, as a report says it.
 fn kind_in_report(kind: Kind) -> RowKind
     ensures { result ≡ row_kind kind }
 {
@@ -35,6 +37,7 @@ fn target(kind: Kind) -> u64
     }
 }
 
+/// A copy of a name.
 fn copied(alloc: Global, name: &Name) -> Result<Name, Memory>
     ensures { IfOk result (λ n. n ≡ name.now) }
 {
@@ -86,6 +89,7 @@ fn row_at(
     }
 }
 
+/// Adds a row, if there is one.
 fn keep(rows: &mut Vec<ReportRow>, row: Option<ReportRow>) -> Result<(), Memory>
     ensures { OnOk result (rows.new.items ≡ rows.old.items ++ option_to_list row) }
 {

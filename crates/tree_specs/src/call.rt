@@ -1,3 +1,4 @@
+//! The calls: all that a caller, be it the program or a routine, may ask of a host.
 use crate::name::Name;
 use crate::object::{Obj, Owner};
 use crate::octets::Octets;
@@ -11,11 +12,11 @@ pub enum Call {
         size: u64,
         name: Name,
     },
-    /// `free X`: gives up the object with all that is below it, as `talloc_free` does.
+    /// `free X`: frees the object and all that is below it, as `talloc_free` does.
     Free {
         x: Obj,
     },
-    /// `freekids X`: gives up all that is below the object, as `talloc_free_children` does.
+    /// `freekids X`: frees all that is below the object, as `talloc_free_children` does.
     Freekids {
         x: Obj,
     },
@@ -24,20 +25,20 @@ pub enum Call {
         owner: Owner,
         x: Obj,
     },
-    /// `move P X`: the same, where the reply is the object, as `talloc_move` gives it.
+    /// `move P X`: puts the object below another owner, and replies with the object, as `talloc_move` does.
     Move {
         owner: Owner,
         x: Obj,
     },
-    /// `reparent OLD NEW X`: the same, where `from` must be its owner, as `talloc_reparent` does; or `from` owns
-    /// references to it, and the newest of these goes to `to`.
+    /// `reparent OLD NEW X`: puts the object below `to` where `from` is its owner, as `talloc_reparent` does; or, where
+    /// `from` owns references to it, puts the newest of these below `to`.
     Reparent {
         from: Owner,
         to: Owner,
         x: Obj,
     },
-    /// `reference P X`: a reference to a plain object, or to a request, below an owner, as `talloc_reference` makes it. The reply is its
-    /// number.
+    /// `reference P X`: a reference to a plain object, or to a request, below an owner, as `talloc_reference` makes it.
+    /// The reply is its number.
     Reference {
         owner: Owner,
         x: Obj,
@@ -110,17 +111,17 @@ pub enum Call {
     Unschedule {
         x: Obj,
     },
-    /// `timer P TIME R U`: an event below an owner that comes at a time in microseconds, from 0 to 2^62, with the routine
-    /// R and the user number U, as `tevent_add_timer` makes it. The reply is its number.
+    /// `timer P TIME R U`: an event below an owner that comes at a time in microseconds, from 0 to 2^62, with the
+    /// routine R and the user number U, as `tevent_add_timer` makes it. The reply is its number.
     Timer {
         owner: Owner,
         time: u64,
         routine: u32,
         user: u64,
     },
-    /// `fd P FD F R U`: an event below an owner that comes when the descriptor FD is ready for what the flags F say, with the
-    /// routine R and the user number U, as `tevent_add_fd` makes it: 1 is for reading, 2 for writing, 3 for both, and 0 for
-    /// neither. The reply is its number.
+    /// `fd P FD F R U`: an event below an owner that comes when the descriptor FD is ready for what the flags F say,
+    /// with the routine R and the user number U, as `tevent_add_fd` makes it: 1 is for reading, 2 for writing, 3 for
+    /// both, and 0 for neither. The reply is its number.
     Fd {
         owner: Owner,
         fd: u32,
@@ -145,13 +146,13 @@ pub enum Call {
     Close {
         fd: u32,
     },
-    /// `accept FD`: asks who connects to the listener of a descriptor. The reply is the descriptor that was accepted, or
-    /// `again` or `fault`.
+    /// `accept FD`: asks who connects to the listener of a descriptor. The reply is the descriptor that was accepted,
+    /// or `again` or `fault`.
     Accept {
         fd: u32,
     },
-    /// `read FD LEN`: asks for bytes from a descriptor, from 1 to 65,536 at most. The reply is the bytes, or `end`, `again` or
-    /// `fault`.
+    /// `read FD LEN`: asks for bytes from a descriptor, from 1 to 65,536 at most. The reply is the bytes, or `end`,
+    /// `again` or `fault`.
     Read {
         fd: u32,
         len: u32,
@@ -161,28 +162,28 @@ pub enum Call {
         fd: u32,
         bytes: Octets,
     },
-    /// `req P SIZE NAME`: a request below an owner, in progress, and below it a plain object of this size in bytes and with
-    /// this name for its own state, as `tevent_req_create` makes them. The reply is the request's number; that of the plain
-    /// object is the next one.
+    /// `req P SIZE NAME`: a request below an owner, in progress, and below it a plain object of this size in bytes and
+    /// with this name for its own state, as `tevent_req_create` makes them. The reply is the request's number; that of
+    /// the plain object is the next one.
     Req {
         owner: Owner,
         size: u64,
         name: Name,
     },
-    /// `callback X R U`: when the request is over the routine R runs with the user number U, as `tevent_req_set_callback`
-    /// says. With 0 for R none does.
+    /// `callback X R U`: when the request is over the routine R runs with the user number U, as
+    /// `tevent_req_set_callback` says. With 0 for R none does.
     Callback {
         x: Obj,
         routine: u32,
         user: u64,
     },
-    /// `defer X`: when the request is over it comes soon, and its callback runs only then, as `tevent_req_defer_callback`
-    /// says.
+    /// `defer X`: when the request is over it comes soon, and its callback runs only then, as
+    /// `tevent_req_defer_callback` says.
     Defer {
         x: Obj,
     },
-    /// `cleanup X R`: each time that the request goes to a later state the routine R runs, as `tevent_req_set_cleanup_fn`
-    /// says. With 0 for R none does.
+    /// `cleanup X R`: each time that the request goes to a later state the routine R runs, as
+    /// `tevent_req_set_cleanup_fn` says. With 0 for R none does.
     Cleanup {
         x: Obj,
         routine: u32,
@@ -192,8 +193,8 @@ pub enum Call {
         x: Obj,
         routine: u32,
     },
-    /// `cancel X`: runs the routine that cancels the request, as `tevent_req_cancel` does. The reply is 0 where this returns
-    /// 0 or there is none, and else 1.
+    /// `cancel X`: runs the routine that cancels the request, as `tevent_req_cancel` does. The reply is 0 where this
+    /// returns 0 or there is none, and else 1.
     Cancel {
         x: Obj,
     },
@@ -205,8 +206,8 @@ pub enum Call {
     Done {
         x: Obj,
     },
-    /// `error X N`: the work of the request has failed with this number, as `tevent_req_error` says. The reply is 1; with 0
-    /// it hasn't failed, and the reply is 0.
+    /// `error X N`: the work of the request has failed with this number, as `tevent_req_error` says. The reply is 1;
+    /// with 0 it hasn't failed, and the reply is 0.
     Error {
         x: Obj,
         error: u64,
@@ -224,26 +225,26 @@ pub enum Call {
     Progress {
         x: Obj,
     },
-    /// `endtime X TIME`: the request times out at a time in microseconds, from 0 to 2^62, where it still is in progress then,
-    /// as `tevent_req_set_endtime` says.
+    /// `endtime X TIME`: the request times out at a time in microseconds, from 0 to 2^62, where it still is in progress
+    /// then, as `tevent_req_set_endtime` says.
     Endtime {
         x: Obj,
         time: u64,
     },
-    /// `received X`: what came of the request was taken, as `tevent_req_received` says: the object that it was made with is
-    /// freed, and no state comes after this.
+    /// `received X`: what came of the request was taken, as `tevent_req_received` says: the object that it was made
+    /// with is freed, and no state comes after this.
     Received {
         x: Obj,
     },
-    /// `queue P NAME`: a queue of requests below an owner, which runs, as `tevent_queue_create` makes it. The reply is its
-    /// number.
+    /// `queue P NAME`: a queue of requests below an owner, which runs, as `tevent_queue_create` makes it. The reply is
+    /// its number.
     Queue {
         owner: Owner,
         name: Name,
     },
-    /// `enqueue Q X R U`: the request X waits in the queue Q for its turn, behind all others, and then the routine R runs for
-    /// it with the user number U, as `tevent_queue_add_entry` says. The reply is the number of its entry, an object below
-    /// the request that leaves the queue when it is freed.
+    /// `enqueue Q X R U`: the request X waits in the queue Q for its turn, behind all others, and then the routine R
+    /// runs for it with the user number U, as `tevent_queue_add_entry` says. The reply is the number of its entry, an
+    /// object below the request that leaves the queue when it is freed.
     Enqueue {
         queue: Obj,
         x: Obj,
@@ -266,12 +267,12 @@ pub enum Call {
     Running {
         queue: Obj,
     },
-    /// `pending`: how many events wait: immediates and requests that come soon, timers and end times of requests, and events
-    /// on descriptors.
+    /// `pending`: how many events wait: immediates and requests that come soon, timers and end times of requests, and
+    /// events on descriptors.
     Pending,
     /// `now`: the time in microseconds, as `tevent_timeval_current` tells. The host asks the clock.
     Now,
-    /// `turn`: one turn of the event loop, as `tevent_loop_once` takes it: the first event that has come runs. The reply is
-    /// 1, or 0 where none has come.
+    /// `turn`: one turn of the event loop, as `tevent_loop_once` takes it: the first event that has come runs. The
+    /// reply is 1, or 0 where none has come.
     Turn,
 }

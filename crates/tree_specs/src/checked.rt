@@ -1,20 +1,21 @@
+//! Lists whose elements obey a rule, which is checked once, when the list is made.
 ghost use Rattle.std.specs.Prelude.{◌≡◌, Bool, List, IsTrue, IfSome, IsSome, ◌↔◌};
 ghost use Rattle.std.specs.Cmp.Lexicographic.{pointwise, lists_per, lists_equiv};
 
 use crate::listed::Listed;
 use std::marker::{Model, PhantomData};
 
-/// What elements have to be.
+/// A rule that elements may obey.
 pub trait Rule<T> {
     /// Whether they are so.
     ghost holds: { List T → Bool };
 
-    /// Whether they are so.
+    /// Whether the elements obey the rule.
     fn holds(elements: &[T]) -> bool
         ensures { result ≡ holds elements.now };
 }
 
-/// Elements that are as a rule wants them. Contracts see the list of them.
+/// Elements that obey a rule. Contracts see the list of them.
 #[derive(Drop)]
 pub struct Checked<T: 'static, R: Rule<T>> {
     elements: Listed<T>,
@@ -30,7 +31,7 @@ impl<T: 'static, R: Rule<T>> Model for Checked<T, R> {
 }
 
 impl<T: Drop + 'static, R: Rule<T>> Checked<T, R> {
-    /// These. None exactly where they aren't as the rule wants them. It takes no memory.
+    /// A list of these elements. None exactly where they don't obey the rule.
     pub fn make(elements: Vec<T>) -> Option<Checked<T, R>>
         ensures some { IsSome result ↔ IsTrue (R.holds elements.items) }
         ensures same { IfSome result (λ c. c ≡ elements.items) }
@@ -45,7 +46,7 @@ impl<T: Drop + 'static, R: Rule<T>> Checked<T, R> {
         }
     }
 
-    /// Some that stand in the program. It takes no memory.
+    /// A list of elements that stand in the program.
     pub fn fixed(elements: &'static [T]) -> Checked<T, R>
         requires { IsTrue (R.holds elements.now) }
         ensures { result ≡ elements.now }
@@ -56,7 +57,7 @@ impl<T: Drop + 'static, R: Rule<T>> Checked<T, R> {
         }
     }
 
-    /// Lends them.
+    /// Lends the elements.
     pub fn as_slice(&self) -> &[T]
         ensures value { result.now ≡ self.now }
         ensures sound { IsTrue (R.holds self.now) }

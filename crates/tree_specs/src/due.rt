@@ -1,3 +1,4 @@
+//! The time of an object.
 use crate::object::Obj;
 
 /// An object whose time comes: a timer (`tevent_add_timer`), or a request with an end time.

@@ -1,3 +1,4 @@
+//! The events that a host tells.
 use crate::moment::What;
 use crate::object::{Obj, Owner};
 use crate::reply::Reply;
@@ -15,12 +16,13 @@ pub enum Event {
     },
     /// The object's destructor returned 0.
     Accepted(Obj),
-    /// It returned this number, which isn't 0.
+    /// The object's destructor returned this number, which isn't 0.
     Refused {
         object: Obj,
         answer: u32,
     },
-    /// An object that wasn't freed with its owner goes to another one.
+    /// An object goes to another owner, as it wasn't freed with its owner, or as its owner gave it up and another one
+    /// had a reference to it.
     Moved {
         object: Obj,
         owner: Owner,

@@ -60,8 +60,8 @@ pub fn only_what_has_references_is_held()
     ensures unlinked { (is : List InputData) → Grounded bad.unlinked_held is → ⊥ }
 {}
 
-/// A free, and an unlinking, is refused as running only where the object ran when the call began, and for a destructor's
-/// number only right after this was told.
+/// A free, and an unlinking, is refused as running only where the object ran when the call began, and for a
+/// destructor's number only right after this was told.
 pub fn a_refused_free_has_its_cause()
     ensures running { (is : List InputData) → Grounded bad.running_though_quiet is → ⊥ }
     ensures refused { (is : List InputData) → Grounded bad.refused_unheard is → ⊥ }
@@ -69,8 +69,8 @@ pub fn a_refused_free_has_its_cause()
     ensures unlinked_refused { (is : List InputData) → Grounded bad.unlinked_refused_unheard is → ⊥ }
 {}
 
-/// A handler starts for a live object of its kind, whose turn it is, a request's routine for a request, and a destructor
-/// accepts right after a question to it, while its object is asked.
+/// A handler starts for a live object of its kind, whose turn it is, a request's routine for a request, and a
+/// destructor accepts right after a question to it, while its object is asked.
 pub fn routines_start_for_live_objects()
     ensures { (is : List InputData) → NoneOf (λ scenes. Grounded scenes is) bad.badly_started }
 {}

@@ -1,3 +1,4 @@
+//! The works that may be open, by what is still to do of each. The table of the rules (`specs/Machine`) goes by them.
 use crate::call::Call;
 use crate::free_step::FreeReply;
 use crate::handler::Handler;
@@ -19,8 +20,8 @@ pub enum Frame {
     Request(RequestFrame),
 }
 
-/// What is still to do for a caller, who does one call after another. A caller is known by the question that
-/// it is asked: Quiet is the host's own caller, Routine a routine that runs.
+/// What is still to do for a caller, which does one call after another. A caller is known by the question that it is
+/// asked: Quiet is the host's own caller, Routine a routine that runs.
 #[derive(Drop)]
 pub enum CallFrame {
     /// The question is to be asked.
@@ -103,7 +104,8 @@ pub enum FreeFrame {
         hook: u32,
         value: u32,
     },
-    /// `x` is a request. Before it leaves its owner it is to be received, where it wasn't yet; it waits until this is over.
+    /// `x` is a request. Before it leaves its owner it is to be received, where it wasn't yet; it waits until this is
+    /// over.
     Preparing {
         x: Obj,
     },
@@ -276,7 +278,8 @@ pub enum RequestFrame {
         handler: Handler,
         errand: Errand,
     },
-    /// The queue is to be freed: it doesn't run any more, and its entries are to be freed before it, the first one first.
+    /// The queue is to be freed: it doesn't run any more, and its entries are to be freed before it, the first one
+    /// first.
     Vacating {
         queue: Obj,
     },

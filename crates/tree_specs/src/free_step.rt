@@ -1,3 +1,4 @@
+//! What a free tells step by step, and what it answers at its end.
 use crate::object::{Obj, Owner};
 
 /// What a free answers.
@@ -41,7 +42,8 @@ pub enum FreeStep {
         object: Obj,
         from: Owner,
     },
-    /// A child that wasn't freed goes from its owner to its heir.
+    /// The object goes from its owner to another one: a child that wasn't freed to its heir, or an object that its
+    /// owner gave up to the owner of a reference that was dropped.
     Moved {
         object: Obj,
         from: Owner,

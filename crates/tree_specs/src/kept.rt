@@ -5,15 +5,14 @@ ghost use Rattle.tree_specs.specs.Words.Kept.{kept_bytes, IsKept};
 
 use std::alloc::{AllocError, Global};
 
-/// How many bytes are kept in place. Most names are that short, and an allocation costs more than all else that makes or frees
-/// an object.
+/// How many bytes are kept in place. Most names are that short, and then a name needs no allocation of its own.
 const FEW: usize = 16;
 
 /// Where the bytes of a name are.
 #[derive(Drop)]
 pub(crate) enum Kept {
-    /// In place, as the first `len` of these. A length before them keeps them at the start of a word, so that they are moved by
-    /// words.
+    /// In place, as the first `len` of these. A length before them keeps them at the start of a word, so that they are
+    /// moved by words.
     Few { len: usize, bytes: [u8; FEW] },
     /// In memory of their own.
     Many(Vec<u8>),
@@ -22,6 +21,7 @@ pub(crate) enum Kept {
 }
 
 impl Kept {
+    /// Keeps these bytes in place.
     fn few(bytes: &[u8]) -> Kept
         requires { length bytes.now ≤ FEW }
         ensures same { kept_bytes result ≡ bytes.now }
@@ -47,7 +47,7 @@ impl Kept {
         }
     }
 
-    /// Lends them.
+    /// Lends the bytes.
     pub(crate) fn as_slice(&self) -> &[u8]
         requires { IsKept self.now }
         ensures { result.now ≡ kept_bytes self.now }

@@ -1,3 +1,4 @@
+//! The kinds of objects.
 ghost use Rattle.std.specs.Prelude.{◌≡◌};
 ghost use Rattle.tree_specs.specs.Tree.Targets.{target_of};
 

@@ -61,15 +61,16 @@ pub fn the_table_tells_the_story()
     ensures strays { (first : ℕ) (is : List InputData) → 1 ≤ first → strays_of (begin first) is ≡ is_stray (outcome first is) }
 {}
 
-/// A free over any objects and inputs, and so within a call, for a child, and in an act: it takes a prefix of the inputs,
-/// waits at the open question before each of them, and has ended with the last.
+/// A free over any objects and inputs, and so within a call, for a child, and in an act: it takes a prefix of the
+/// inputs, waits at the open question before each of them, and has ended with the last.
 pub fn a_free_waits_for_each_of_its_inputs()
     ensures { (n : ℕ) (x : ObjData) (p q : Pool) (is left : List InputData) (a : FreeReplyData) (told : List Scene) → free n x p is ≡ Ended a q told left →
         (used : List InputData) × (used ++ left ≡ is) × EndsBy (λ js. free n x p js) a q told used }
 {}
 
 /// A free over any objects and inputs answers that the object runs only where it runs; that it is held only where the
-/// newest reference was one from outside, and was dropped last; and a destructor's number only where this was told last.
+/// newest reference was one from outside, and was dropped last; and a destructor's number only where this was told
+/// last.
 pub fn a_free_answers_with_its_cause()
     ensures running { (n : ℕ) (x : ObjData) (p q : Pool) (is left : List InputData) (told : List Scene) → free n x p is ≡ Ended Running q told left → is_running q x ≡ true }
     ensures held { (n : ℕ) (x : ObjData) (p q : Pool) (is left : List InputData) (told : List Scene) → free n x p is ≡ Ended Held q told left → LastIs (DropsOutside x) told }
@@ -98,16 +99,17 @@ pub fn every_story_is_grounded()
     ensures { (first : ℕ) (is : List InputData) → 1 ≤ first → Grounded (story first is) is }
 {}
 
-/// What waits for its turn is at every moment a live event with a handler: an immediate where it comes soon, a timer where
-/// it has a time, a descriptor's event where it watches; or a live request, where it comes soon or has an end time. What is
-/// being freed, or will be once its handler is over, waits no more, and only events have handlers. Each descriptor that is watched is open, and one event watches it.
+/// What waits for its turn is at every moment a live event with a handler: an immediate where it comes soon, a timer
+/// where it has a time, a descriptor's event where it watches; or a live request, where it comes soon or has an end
+/// time. What is being freed, or will be once its handler is over, waits no more, and only events have handlers. Each
+/// descriptor that is watched is open, and one event watches it.
 pub fn what_waits_is_a_live_event()
     ensures in_stories { (first : ℕ) (is : List InputData) → 1 ≤ first → EachFits AwaitsBefore (story first is) }
     ensures after_each_step { (v : View) → IsConsistent v → Awaits v.pool → Awaits (pool_after (step v.innermost v.pool)) }
 {}
 
-/// A turn replies 0 exactly where nothing came: nothing was to come soon, no time had come at the last look, and no event
-/// waited for what its descriptor was ready for.
+/// A turn replies 0 exactly where nothing came: nothing was to come soon, no time had come at the last look, and no
+/// event waited for what its descriptor was ready for.
 pub fn a_turn_replies_0_where_nothing_came()
     ensures cause { (n : ℕ) (p q : Pool) (is left : List InputData) (told : List Scene) → taking n p is ≡ Ended 0 q told left → (used : List InputData) × (used ++ left ≡ is) × NothingCame p used }
     ensures idle { (p : Pool) (used left : List InputData) (n : ℕ) → NothingCame p used → 8 ≤ n → (q : Pool) × (told : List Scene) × (taking n p (used ++ left) ≡ Ended 0 q told left) }

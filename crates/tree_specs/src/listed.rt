@@ -1,3 +1,4 @@
+//! Lists that own their elements, or lend those that stand in the program.
 ghost use Rattle.std.specs.Prelude.{◌≡◌};
 ghost use Rattle.std.specs.Cmp.Lexicographic.{pointwise, lists_per, lists_equiv};
 
@@ -20,6 +21,7 @@ impl<T> Model for Listed<T> {
 }
 
 impl<T> Listed<T> {
+    /// A list of these elements, which it owns.
     pub(crate) fn given(items: Vec<T>) -> Listed<T>
         ensures { result ≡ items.items }
     {
@@ -28,6 +30,7 @@ impl<T> Listed<T> {
         }
     }
 
+    /// A list of elements that stand in the program.
     pub(crate) fn fixed(items: &'static [T]) -> Listed<T>
         ensures { result ≡ items.now }
     {
@@ -36,6 +39,7 @@ impl<T> Listed<T> {
         }
     }
 
+    /// Lends the elements.
     pub(crate) fn as_slice(&self) -> &[T]
         ensures { result.now ≡ self.now }
     {

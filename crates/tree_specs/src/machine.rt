@@ -26,10 +26,10 @@ ghost use Rattle.tree_specs.specs.Machine.View.{View, rest_of};
 ghost use Rattle.tree_specs.specs.Invariants.Consistent.{IsConsistent};
 
 /// From the beginning of a free the table of single steps tells, answers, leaves and takes what the text says of it,
-/// over every pool and all inputs, whenever the turns are enough; so it is where an owner's interest is taken away, where
-/// the children of an object are freed, and where a caller is asked, as a destructor that runs is; and where a turn of the
-/// event loop is taken, the outside is asked, or a request goes to a state, is notified, received or cancelled; and where
-/// the entries of a queue are freed, or the trigger of its first entry runs.
+/// over every pool and all inputs, whenever the turns are enough; so it is where an owner's interest is taken away,
+/// where the children of an object are freed, and where a caller is asked, as a destructor that runs is; and where a
+/// turn of the event loop is taken, the outside is asked, or a request goes to a state, is notified, received or
+/// cancelled; and where the entries of a queue are freed, or the trigger of its first entry runs.
 pub fn the_machine_tells_the_text()
     ensures free { (n : ℕ) (x : ObjData) (p : Pool) (is : List InputData) → run_of n (Free (Beginning x)) p is ≢ Short →
         run_of n (Free (Beginning x)) p is ≡ ends_as Freed (free n x) p is }
@@ -61,8 +61,8 @@ pub fn the_machine_tells_the_text()
     ensures same { (v : View) (n : ℕ) (is : List InputData) → IsConsistent v → stated v.pool is ≤ n → run_of n v.innermost v.pool is ≡ run_of (stated v.pool is) v.innermost v.pool is }
 {}
 
-/// At every moment of a host, for any pool and open works that hold together, the stated number of turns is enough, more
-/// turns give the same, and the story still to come is that of the text.
+/// At every moment of a host, for any pool and open works that hold together, the stated number of turns is enough,
+/// more turns give the same, and the story still to come is that of the text.
 pub fn turns_are_enough_at_every_moment()
     ensures enough { (v : View) (is : List InputData) → IsConsistent v → text_rest (stated v.pool is) v is ≢ Short }
     ensures same { (v : View) (n : ℕ) (is : List InputData) → IsConsistent v → stated v.pool is ≤ n → text_rest n v is ≡ text_rest (stated v.pool is) v is }

@@ -1,3 +1,4 @@
+//! What routines run for, and the moments at which they are asked what they do.
 use crate::object::Obj;
 use crate::reply::Reply;
 
@@ -14,7 +15,7 @@ pub enum What {
     Descriptor,
     /// A request is over.
     Callback,
-    /// A request goes to a last state.
+    /// A request has gone to a later state.
     Cleanup,
     /// A request is to be cancelled.
     Cancel,

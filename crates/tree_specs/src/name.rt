@@ -1,3 +1,4 @@
+//! The names of objects.
 ghost use Rattle.std.specs.Prelude.{◌≡◌, ℕ, if◌then◌else◌, List, IsTrue, Some, None, IfOk, nat_eq};
 ghost use Rattle.std.specs.Cmp.{partial_equiv_from_equiv};
 ghost use Rattle.std.specs.Cmp.Lexicographic.{pointwise, nat_list_eq_equiv};
@@ -11,12 +12,14 @@ use crate::memory::Memory;
 use std::alloc::Global;
 use std::marker::Model;
 
+/// Whether a byte is a printable ASCII character and no space.
 fn is_graphic_byte(b: u8) -> bool
     ensures { result ≡ is_graphic b }
 {
     0x21 <= b && b <= 0x7E
 }
 
+/// Whether all bytes are printable ASCII characters and no spaces.
 fn is_graphic_text(bytes: &[u8]) -> bool
     ensures { result ≡ list_all is_graphic bytes.now }
 {
@@ -57,7 +60,7 @@ impl Name {
         Ok(Some(Name { kept }))
     }
 
-    /// A name that stands in the program. It takes no memory.
+    /// A name that stands in the program.
     pub fn fixed(bytes: &'static [u8]) -> Name
         requires { IsTrue (is_name bytes.now) }
         ensures { result ≡ bytes.now }

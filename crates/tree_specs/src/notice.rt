@@ -1,3 +1,4 @@
+//! What a call tells before its reply.
 use crate::object::Obj;
 
 /// What a call tells before its reply.

@@ -1,3 +1,4 @@
+//! Objects and owners, by their numbers.
 ghost use Rattle.std.specs.Prelude.{◌≡◌};
 ghost use Rattle.tree_specs.specs.Words.Objects.{owner_number};
 

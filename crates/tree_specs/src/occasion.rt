@@ -1,3 +1,5 @@
+//! What goes with an event when it comes.
+
 /// What a handler is told of what has come.
 #[derive(Clone, Copy, PartialEq, Eq)]
 pub struct Occasion {

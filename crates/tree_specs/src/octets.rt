@@ -1,3 +1,4 @@
+//! The bytes of one read or of one write.
 ghost use Rattle.tree_specs.specs.Words.Octets.{is_octets};
 
 use crate::bounds::OCTETS_LIMIT;

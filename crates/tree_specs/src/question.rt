@@ -1,3 +1,4 @@
+//! The questions of a host, and the answers to them.
 use crate::call::Call;
 use crate::moment::Moment;
 use crate::octets::Octets;

@@ -1,3 +1,4 @@
+//! What is kept of an entry of a queue.
 use crate::handler::Handler;
 use crate::object::Obj;
 

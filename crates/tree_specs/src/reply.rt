@@ -1,3 +1,4 @@
+//! Replies to calls, and why a call is refused.
 use crate::object::{Obj, Owner};
 use crate::octets::Octets;
 use crate::report::ReportRows;
@@ -39,7 +40,7 @@ pub enum Refusal {
     /// The object is being freed.
     #[error("{0} is being freed")]
     Dying(Obj),
-    /// So many bytes are wanted, and this object's limit has no room for them beside its sum.
+    /// So many more bytes are needed, and this object's limit has no room for them beside its sum.
     #[error("{wanted} bytes more are wanted inside {row}, which counts {sum} of at most {limit}")]
     OverLimit {
         row: Obj,

@@ -1,3 +1,4 @@
+//! Reports, and their rows.
 ghost use Rattle.std.specs.Prelude.{◌≡◌};
 ghost use Rattle.tree_specs.specs.Tree.Reports.{root_row};
 
@@ -73,7 +74,7 @@ impl Model for ReportRows {
 }
 
 impl ReportRows {
-    /// These rows. It takes no memory.
+    /// A report of these rows.
     pub fn make(rows: Vec<ReportRow>) -> ReportRows
         ensures { result ≡ rows.items }
     {

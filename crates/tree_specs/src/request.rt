@@ -1,3 +1,4 @@
+//! What is kept of a request.
 ghost use Rattle.std.specs.Prelude.{◌≡◌};
 ghost use Rattle.tree_specs.specs.Events.Requests.{state_number};
 
@@ -47,7 +48,7 @@ pub struct Note {
     pub callback: Option<Handler>,
     /// When it is over it comes soon, and its callback runs only then (`tevent_req_defer_callback`).
     pub deferred: bool,
-    /// The routine that runs when it goes to a last state (`tevent_req_set_cleanup_fn`); 0 is none.
+    /// The routine that runs each time that it goes to a later state (`tevent_req_set_cleanup_fn`); 0 is none.
     pub cleanup: u32,
     /// The number of the last state that its cleanup was run for, or was set in.
     pub cleaned: u32,

@@ -1,3 +1,4 @@
+//! What the tree keeps of an object.
 use crate::kind::Kind;
 use crate::name::Name;
 use crate::object::{Obj, Owner};

@@ -1,3 +1,4 @@
+//! What the first line of a schedule says, and why a line is rejected.
 use thiserror::Error;
 
 /// What runs the lines of a schedule, which its first line says.
@@ -7,7 +8,7 @@ pub enum Mode {
     Pool,
 }
 
-/// Why a line of a schedule was refused. They are tried in this order.
+/// Why a line of a schedule was rejected. The reasons are tried in this order.
 #[derive(Clone, Copy, Debug, PartialEq, Eq, Error)]
 pub enum Reason {
     /// The line has more than 262,144 bytes without its LF, or stands after line 4,294,967,295.

@@ -1,3 +1,4 @@
+//! The tests that calls have to pass.
 use crate::object::{Obj, Owner};
 
 /// What is looked at before a call is done. Where it isn't so, the call is refused.

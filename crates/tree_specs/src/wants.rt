@@ -1,3 +1,4 @@
+//! Descriptors with what they are ready for, and lists of them.
 ghost use Rattle.std.specs.Prelude.{◌≡◌};
 ghost use Rattle.std.specs.List.{list_all};
 ghost use Rattle.tree_specs.specs.Words.Wants.{is_wants, is_want, has_flags, rises, comes_before};
@@ -12,30 +13,35 @@ pub struct Want {
     pub flags: u32,
 }
 
+/// Whether the flags name something: 1 to 3.
 fn has_flags(want: Want) -> bool
     ensures { result ≡ has_flags want }
 {
     1 <= want.flags && want.flags <= 3
 }
 
+/// Whether a descriptor stands before another one.
 fn comes_before(first: Want, second: Want) -> bool
     ensures { result ≡ comes_before first second }
 {
     first.fd < second.fd
 }
 
+/// Whether one element is as the rule says.
 fn is_want(want: Want) -> bool
     ensures { result ≡ is_want want }
 {
     has_flags(want)
 }
 
+/// Whether each element is as the rule says.
 fn are_all_wants(list: &[Want]) -> bool
     ensures { result ≡ list_all is_want list.now }
 {
     list.iter().all(|want| is_want(*want))
 }
 
+/// Whether the descriptors rise, so that each stands once.
 fn rises(list: &[Want]) -> bool
     ensures { result ≡ rises list.now }
 {

@@ -1,4 +1,4 @@
-//! Runs that are long or deep: what no clause says is that they find the memory that they want.
+//! Runs that are long or deep: what no clause says is that they find the memory that they need.
 ghost use Rattle.std.specs.Prelude.{IsTrue};
 ghost use Rattle.tree_specs.specs.Words.Ranges.{is_sound};
 

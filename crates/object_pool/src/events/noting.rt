@@ -25,7 +25,7 @@ impl Events {
         self.requests.len()
     }
 
-    /// A new request, with the object that it was made with.
+    /// Adds a request, with the object that it was made with.
     pub fn create(&mut self, x: Obj, child: Obj)
         requires place { HasPlace self.old }
         requires new { note_of self.old.upcoming.requests x ≡ None }
@@ -34,7 +34,7 @@ impl Events {
         self.requests.create(x, child);
     }
 
-    /// What runs when a request is over, with a user number; with 0 for the routine nothing does.
+    /// Sets the routine that runs when a request is over, with a user number; 0 is none.
     pub fn set_callback(&mut self, x: Obj, routine: u32, user: u64)
         ensures upcoming { self.new.upcoming ≡ with_request (called_back routine user) x self.old.upcoming }
         ensures kept { KeepsPlaces self.old self.new }
@@ -42,7 +42,7 @@ impl Events {
         self.requests.set_callback(x, routine, user);
     }
 
-    /// What runs when a request goes to a later state than the present one, where 0 is nothing.
+    /// Sets the routine that runs when a request goes to a later state than the present one; 0 is none.
     pub fn set_cleanup(&mut self, x: Obj, routine: u32)
         ensures upcoming { self.new.upcoming ≡ with_request (cleaned_by routine) x self.old.upcoming }
         ensures kept { KeepsPlaces self.old self.new }
@@ -50,7 +50,7 @@ impl Events {
         self.requests.set_cleanup(x, routine);
     }
 
-    /// What runs to cancel a request, where 0 is nothing.
+    /// Sets the routine that cancels a request; 0 is none.
     pub fn set_cancel(&mut self, x: Obj, routine: u32)
         ensures upcoming { self.new.upcoming ≡ with_request (cancelled_by routine) x self.old.upcoming }
         ensures kept { KeepsPlaces self.old self.new }
@@ -58,7 +58,7 @@ impl Events {
         self.requests.set_cancel(x, routine);
     }
 
-    /// When a request is over it comes soon, and is notified only then.
+    /// Defers the callback of a request: when it is over it comes soon, and is notified only then.
     pub fn defer(&mut self, x: Obj)
         ensures upcoming { self.new.upcoming ≡ with_request deferring x self.old.upcoming }
         ensures kept { KeepsPlaces self.old self.new }
@@ -66,7 +66,7 @@ impl Events {
         self.requests.defer(x);
     }
 
-    /// The number of a request's failure.
+    /// Sets the number of a request's failure.
     pub fn set_error(&mut self, x: Obj, error: u64)
         ensures upcoming { self.new.upcoming ≡ with_request (failed_with error) x self.old.upcoming }
         ensures kept { KeepsPlaces self.old self.new }
@@ -74,7 +74,7 @@ impl Events {
         self.requests.set_error(x, error);
     }
 
-    /// A request goes to a state, and has no end time any more.
+    /// Sets the state of a request, and removes its end time.
     pub fn finish(&mut self, x: Obj, state: State)
         ensures upcoming { self.new.upcoming ≡ finished x state self.old.upcoming }
         ensures kept { KeepsPlaces self.old self.new }
@@ -83,7 +83,8 @@ impl Events {
         self.requests.set_state(x, state);
     }
 
-    /// The cleanup that a request's present state wants, which counts as run from then on. None exactly where it wants none.
+    /// Gives the cleanup that is to run for a request's present state, which counts as run from then on. None exactly
+    /// where none is to run.
     pub fn to_clean(&mut self, x: Obj) -> Option<Handler>
         ensures result { result ≡ cleanup_in (note_of self.old.upcoming.requests x) }
         ensures upcoming { self.new.upcoming ≡ record self.old.upcoming { requests = left_by result self.old.upcoming.requests x } }
@@ -92,7 +93,7 @@ impl Events {
         self.requests.to_clean(x)
     }
 
-    /// What is done where a request is over. One that was to come soon is deferred no more.
+    /// Gives what is done where a request is over. One that was to come soon is deferred no more.
     pub fn to_notify(&mut self, x: Obj) -> Notify
         ensures result { result ≡ notify_of (note_of self.old.upcoming.requests x) }
         ensures upcoming { self.new.upcoming ≡ record self.old.upcoming { requests = posted_by result self.old.upcoming.requests x } }
@@ -101,7 +102,7 @@ impl Events {
         self.requests.to_notify(x)
     }
 
-    /// An object is to come soon, after all others. One that waits already goes to the end.
+    /// Puts an object behind all others that come soon. One that waits already goes to the end.
     pub fn post(&mut self, x: Obj)
         requires { HasPlace self.old }
         ensures { self.new.upcoming ≡ posted x self.old.upcoming }
@@ -109,7 +110,7 @@ impl Events {
         self.order.soon.push(x);
     }
 
-    /// An object's time is to come, in microseconds. No other time has this number.
+    /// Sets the time at which an object comes, in microseconds. No other time has this number.
     pub fn set_time(&mut self, x: Obj, time: u64, number: u64)
         requires place { HasPlace self.old }
         requires number { is_numbered (disarmed self.old.upcoming.times x) number ≡ false }

@@ -10,7 +10,7 @@ use request_queue::{Queues, Turn};
 use tree_specs::{Handler, Obj};
 
 impl Events {
-    /// A new queue, which runs.
+    /// Adds a queue, which runs.
     pub fn add_queue(&mut self, q: Obj)
         requires place { HasPlace self.old }
         requires new { running_of self.old.upcoming.queues q ≡ None }
@@ -19,8 +19,8 @@ impl Events {
         self.queues.add_queue(q);
     }
 
-    /// A new entry of a queue, behind all others; its number is above those of all entries. The queue comes soon, where it runs
-    /// and its first entry waits for its trigger.
+    /// Adds an entry to a queue, behind all others; its number is above those of all entries. The queue comes soon,
+    /// where it runs and its first entry waits for its trigger.
     pub fn add_entry(&mut self, q: Obj, e: Obj, request: Obj, trigger: Handler)
         requires place { HasPlace self.old }
         requires queue { has_queue self.old.upcoming.queues q ≡ true }
@@ -32,8 +32,8 @@ impl Events {
         }
     }
 
-    /// An entry leaves its queue, which comes soon where it runs and its first entry then waits for its trigger. Nothing changes
-    /// where it is no entry.
+    /// Takes an entry out of its queue, which comes soon where it runs and its first entry then waits for its trigger.
+    /// Nothing changes where it is no entry.
     pub fn remove_entry(&mut self, e: Obj)
         ensures upcoming { self.new.upcoming ≡ out_of_queue e self.old.upcoming }
         ensures kept { KeepsPlaces self.old self.new }
@@ -43,7 +43,7 @@ impl Events {
         }
     }
 
-    /// A queue runs from now on. One that didn't comes soon, where its first entry waits for its trigger.
+    /// Starts a queue. One that didn't run comes soon, where its first entry waits for its trigger.
     pub fn start(&mut self, q: Obj)
         requires { HasPlace self.old }
         ensures { self.new.upcoming ≡ running q self.old.upcoming }
@@ -53,7 +53,7 @@ impl Events {
         }
     }
 
-    /// A queue doesn't run from now on.
+    /// Stops a queue.
     pub fn stop(&mut self, q: Obj)
         ensures upcoming { self.new.upcoming ≡ with_queues (run_as self.old.upcoming.queues q false) self.old.upcoming }
         ensures kept { KeepsPlaces self.old self.new }
@@ -68,8 +68,8 @@ impl Events {
         &self.queues
     }
 
-    /// The trigger of a queue's first entry begins, where the queue runs and it hasn't begun. None exactly where there is no such
-    /// entry.
+    /// Begins the trigger of a queue's first entry, where the queue runs and the trigger hasn't begun. None exactly
+    /// where there is no such entry.
     pub fn trigger(&mut self, q: Obj) -> Option<Turn>
         ensures turn { result ≡ option_map turn_of (next_of self.old.upcoming.queues q) }
         ensures upcoming { self.new.upcoming ≡ with_queues (triggered_by (next_of self.old.upcoming.queues q) self.old.upcoming.queues) self.old.upcoming }

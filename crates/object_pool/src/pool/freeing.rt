@@ -43,8 +43,8 @@ fn event(step: &FreeStep, closed: Option<u32>) -> Option<Event>
 }
 
 impl ObjectPool {
-    /// Begins the freeing of an object to which there is no reference. The memory for a call is taken before, but where a free
-    /// waits until a request was received or a queue has no entries: then that for its works is enough.
+    /// Begins the freeing of an object to which there is no reference. The memory for a call is taken before. Where a
+    /// free waits until a request was received or a queue has no entries, the memory for its works is enough.
     pub fn begin_free(&mut self, x: Obj)
         requires room { MayBeginFree self.old }
         requires awaiting { IsAwaiting (frees_in self.old) }
@@ -88,7 +88,7 @@ impl ObjectPool {
         self.engine.begin_kids(&mut self.tree, &mut self.refs, x);
     }
 
-    /// The destructor that the innermost free waits for has returned a number.
+    /// Answers the innermost free, which waits for a destructor, with the number that this has returned.
     pub fn answer(&mut self, value: u32)
         requires asked { IsAsked (slice_get self.old.works 0) }
         requires awaiting { IsAwaiting (frees_in self.old) }
@@ -117,8 +117,8 @@ impl ObjectPool {
         }
     }
 
-    /// Ends the innermost free where it is over, and gives its answer, as a step that is `Done` does. None, with nothing done,
-    /// where it isn't.
+    /// Ends the innermost free where it is over, and gives its answer, as a step that is `Done` does. None, with
+    /// nothing done, where it isn't.
     pub fn end_free(&mut self) -> Option<FreeReply>
         requires at_work { IsAtWork (frees_in self.old) }
         requires settled { speaking (frees_in self.old) ≡ true }
@@ -134,7 +134,7 @@ impl ObjectPool {
         Some(answer)
     }
 
-    /// What comes next of the innermost free.
+    /// Makes the next step of the innermost free.
     pub fn step(&mut self) -> Progress
         requires at_work { IsAtWork (frees_in self.old) }
         requires settled { speaking (frees_in self.old) ≡ true }
@@ -145,7 +145,7 @@ impl ObjectPool {
         ensures requests { count_unreceived self.new.pool.requests ≤ count_unreceived self.old.pool.requests }
         ensures rest { LeavesRest self.old self.new }
     {
-        // All that is wanted of `len` is its contract: the objects are a forest.
+        // Read for the prover: the contract of `len` says that the objects are a forest.
         let _rows = self.tree.len();
         self.ready = false;
         let step = self.engine.step(&mut self.tree, &mut self.refs);

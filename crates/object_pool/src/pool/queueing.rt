@@ -14,7 +14,8 @@ use request_queue::Turn;
 use tree_specs::{Handler, Kind, Name, Obj, Owner};
 
 impl ObjectPool {
-    /// Adds a queue of requests, which runs, as the newest child of an owner, and gives its number (`tevent_queue_create`).
+    /// Adds a queue of requests, which runs, as the newest child of an owner, and gives its number
+    /// (`tevent_queue_create`).
     pub fn add_queue(&mut self, owner: Owner, name: Name) -> Obj
         requires ready { self.old.ready ≡ true }
         requires few { length self.old.pool.rows < row_limit }
@@ -30,8 +31,9 @@ impl ObjectPool {
         queue
     }
 
-    /// A request waits in a queue, behind all others, for this to run; gives the number of its entry, which is a child of the
-    /// request (`tevent_queue_add_entry`). The queue comes soon, where it runs and its first entry waits for its trigger.
+    /// Adds an entry for a request to a queue, behind all others, and gives its number; it is a child of the request
+    /// (`tevent_queue_add_entry`). The trigger runs when its turn comes. The queue comes soon, where it runs and its
+    /// first entry waits for its trigger.
     pub fn add_entry(&mut self, queue: Obj, x: Obj, trigger: Handler) -> Obj
         requires ready { self.old.ready ≡ true }
         requires few { length self.old.pool.rows < row_limit }
@@ -55,7 +57,8 @@ impl ObjectPool {
         entry
     }
 
-    /// A queue runs from now on (`tevent_queue_start`). One that didn't comes soon, where its first entry waits for its trigger.
+    /// Starts a queue (`tevent_queue_start`). One that didn't run comes soon, where its first entry waits for its
+    /// trigger.
     pub fn start_queue(&mut self, queue: Obj)
         requires { self.old.ready ≡ true }
         ensures { self.new ≡ record self.old { pool = starting queue self.old.pool; ready = false } }
@@ -65,7 +68,7 @@ impl ObjectPool {
         self.events.start(queue);
     }
 
-    /// A queue doesn't run from now on (`tevent_queue_stop`).
+    /// Stops a queue (`tevent_queue_stop`).
     pub fn stop_queue(&mut self, queue: Obj)
         ensures { self.new ≡ record self.old { pool = run_queue self.old.pool queue false } }
     {
@@ -86,8 +89,8 @@ impl ObjectPool {
         self.events.queues().head(queue)
     }
 
-    /// The trigger of a queue's first entry begins, where the queue runs and it hasn't begun. None exactly where there is no such
-    /// entry.
+    /// Begins the trigger of a queue's first entry, where the queue runs and the trigger hasn't begun. None exactly
+    /// where there is no such entry.
     pub fn trigger(&mut self, queue: Obj) -> Option<Turn>
         ensures turn { result ≡ option_map turn_of (next_of self.old.pool.queues queue) }
         ensures pool { self.new ≡ record self.old { pool = triggering (next_of self.old.pool.queues queue) self.old.pool } }

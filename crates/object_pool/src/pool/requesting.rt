@@ -43,8 +43,8 @@ impl ObjectPool {
         self.events.count_requests()
     }
 
-    /// Adds a request in progress as the newest child of an owner, and below it a plain object with this size in bytes and this
-    /// name; gives the number of the request, after which comes that of the object (`tevent_req_create`).
+    /// Adds a request in progress as the newest child of an owner, and below it a plain object with this size in bytes
+    /// and this name; gives the number of the request, after which comes that of the object (`tevent_req_create`).
     pub fn add_request(&mut self, owner: Owner, size: u64, name: Name) -> Obj
         requires ready { self.old.ready ≡ true }
         requires few { length self.old.pool.rows + 1 < row_limit }
@@ -77,15 +77,14 @@ impl ObjectPool {
         request
     }
 
-    /// What runs when a request is over, with a user number; with 0 for the routine nothing does
-    /// (`tevent_req_set_callback`).
+    /// Sets the routine that runs when a request is over, with a user number; 0 is none (`tevent_req_set_callback`).
     pub fn set_callback(&mut self, x: Obj, routine: u32, user: u64)
         ensures { self.new ≡ record self.old { pool = renote self.old.pool x (called_back routine user) } }
     {
         self.events.set_callback(x, routine, user);
     }
 
-    /// What runs when a request goes to a later state than the present one, where 0 is nothing
+    /// Sets the routine that runs when a request goes to a later state than the present one; 0 is none
     /// (`tevent_req_set_cleanup_fn`).
     pub fn set_cleanup(&mut self, x: Obj, routine: u32)
         ensures { self.new ≡ record self.old { pool = renote self.old.pool x (cleaned_by routine) } }
@@ -93,28 +92,29 @@ impl ObjectPool {
         self.events.set_cleanup(x, routine);
     }
 
-    /// What runs to cancel a request, where 0 is nothing (`tevent_req_set_cancel_fn`).
+    /// Sets the routine that cancels a request; 0 is none (`tevent_req_set_cancel_fn`).
     pub fn set_cancel(&mut self, x: Obj, routine: u32)
         ensures { self.new ≡ record self.old { pool = renote self.old.pool x (cancelled_by routine) } }
     {
         self.events.set_cancel(x, routine);
     }
 
-    /// When a request is over it comes soon, and is notified only then (`tevent_req_defer_callback`).
+    /// Defers the callback of a request: when it is over it comes soon, and is notified only then
+    /// (`tevent_req_defer_callback`).
     pub fn defer(&mut self, x: Obj)
         ensures { self.new ≡ record self.old { pool = renote self.old.pool x deferring } }
     {
         self.events.defer(x);
     }
 
-    /// The number of a request's failure.
+    /// Sets the number of a request's failure.
     pub fn set_error(&mut self, x: Obj, error: u64)
         ensures { self.new ≡ record self.old { pool = renote self.old.pool x (failed_with error) } }
     {
         self.events.set_error(x, error);
     }
 
-    /// A request comes soon, after all others (`tevent_req_post`). One that waits already goes to the end.
+    /// Posts a request: it comes soon, after all others (`tevent_req_post`). One that waits already goes to the end.
     pub fn post(&mut self, x: Obj)
         requires { self.old.ready ≡ true }
         ensures { self.new ≡ record self.old { pool = scheduled self.old.pool x; ready = false } }
@@ -124,8 +124,8 @@ impl ObjectPool {
         self.events.post(x);
     }
 
-    /// A request times out at this time, in microseconds, if it isn't over before (`tevent_req_set_endtime`). Among equal times
-    /// it comes in the order of the calls, for which it gets a number that no object gets.
+    /// Sets the time, in microseconds, at which a request times out if it isn't over before (`tevent_req_set_endtime`).
+    /// Among equal times it comes in the order of the calls, for which it gets a number that no object gets.
     pub fn set_end_time(&mut self, x: Obj, time: u64)
         requires ready { self.old.ready ≡ true }
         requires numbered { self.old.pool.next < 2 ^ 64 - 1 }
@@ -139,14 +139,14 @@ impl ObjectPool {
         self.events.set_time(x, time, number);
     }
 
-    /// A request goes to a state, and has no end time any more.
+    /// Sets the state of a request, and removes its end time.
     pub fn finish_request(&mut self, x: Obj, state: State)
         ensures { self.new ≡ record self.old { pool = finish self.old.pool x state } }
     {
         self.events.finish(x, state);
     }
 
-    /// A request was received: it comes no more.
+    /// Marks a request as received. It comes no more.
     pub fn receive_request(&mut self, x: Obj)
         ensures { self.new ≡ record self.old { pool = receive self.old.pool x } }
     {
@@ -168,7 +168,8 @@ impl ObjectPool {
         })
     }
 
-    /// The cleanup that a request's present state wants, which counts as run from then on. None exactly where it wants none.
+    /// Gives the cleanup that is to run for a request's present state, which counts as run from then on. None exactly
+    /// where none is to run.
     pub fn to_clean(&mut self, x: Obj) -> Option<Handler>
         ensures result { result ≡ cleanup_in (note_of self.old.pool.requests x) }
         ensures pool { self.new ≡ record self.old { pool = cleaning x result self.old.pool } }
@@ -176,7 +177,8 @@ impl ObjectPool {
         self.events.to_clean(x)
     }
 
-    /// What is done where a request is over: one whose callback is deferred comes soon from now on, and is deferred no more.
+    /// Gives what is done where a request is over. One whose callback is deferred comes soon from now on, and is
+    /// deferred no more.
     pub fn to_notify(&mut self, x: Obj) -> Notify
         requires { self.old.ready ≡ true }
         ensures result { result ≡ notify_of (note_of self.old.pool.requests x) }
@@ -189,7 +191,7 @@ impl ObjectPool {
         notify
     }
 
-    /// What comes before the freeing of the request or the queue that the innermost free waits for is over: the freeing goes on.
+    /// Lets the innermost free go on, which has waited for what comes before the freeing of a request or of a queue.
     pub fn prepared(&mut self)
         requires preparing { IsPreparing (slice_get self.old.works 0) }
         requires awaiting { IsAwaiting (frees_in self.old) }

@@ -39,7 +39,7 @@ fn is_doomed(mark: Mark) -> bool
 }
 
 impl ObjectPool {
-    /// A turn begins: what was picked waits no more.
+    /// Begins a turn, and picks what comes. What was picked waits no more.
     pub fn begin_turn(&mut self) -> Pick
         ensures pick { result ≡ begin_pick self.old.pool.soon self.old.pool.times }
         ensures pool { self.new ≡ record self.old { pool = pool_picked result self.old.pool } }
@@ -47,8 +47,8 @@ impl ObjectPool {
         self.events.begin()
     }
 
-    /// The clock has told the time, in microseconds, in a turn that has `waited` for descriptors before, or hasn't. What was
-    /// picked waits no more.
+    /// Picks what comes once the clock has told the time, in microseconds, in a turn that has `waited` for descriptors
+    /// before, or hasn't. What was picked waits no more.
     pub fn clock(&mut self, now: u64, waited: bool) -> Pick
         ensures pick { result ≡ clock_pick waited now self.old.pool.times }
         ensures pool { self.new ≡ record self.old { pool = pool_picked result self.old.pool } }
@@ -56,7 +56,7 @@ impl ObjectPool {
         self.events.clock(now, waited)
     }
 
-    /// These descriptors are ready.
+    /// Picks what comes when these descriptors are ready.
     pub fn ready(&self, list: &Wants) -> Pick
         ensures { result ≡ ready_pick list.now self.now.pool.times self.now.pool.ring }
     {
@@ -75,7 +75,7 @@ impl ObjectPool {
         self.events.handler(x)
     }
 
-    /// An event comes: one on a descriptor is looked at after all others the next time.
+    /// Puts an event that comes behind all others, where it is one on a descriptor.
     fn rotate(&mut self, what: What, x: Obj)
         ensures { self.new ≡ record self.old { pool = rotated what x self.old.pool } }
     {
@@ -84,7 +84,7 @@ impl ObjectPool {
         }
     }
 
-    /// A handler starts: its event is busy from now on, and one on a descriptor is looked at after all others the next time.
+    /// Makes an event busy whose handler starts. One on a descriptor is looked at after all others the next time.
     fn begin(&mut self, what: What, x: Obj)
         requires is { is_row self.old.pool.rows x ≡ true }
         requires live { is_dying self.old.pool.rows x ≡ false }
@@ -95,8 +95,9 @@ impl ObjectPool {
         self.tree.set_mark(x, Mark::Busy);
     }
 
-    /// An object comes as such an event. It is busy from now on, and this is the handler that is to run. None exactly where
-    /// it is no such event with which nothing goes on, or has no handler; then nothing changes.
+    /// Starts the handler of an object that comes as such an event: the object is busy from now on, and the handler is
+    /// given. None exactly where it is no such event with which nothing goes on, or has no handler; then nothing
+    /// changes.
     pub fn start(&mut self, what: What, x: Obj) -> Option<Handler>
         ensures handler { result ≡ handler_for self.old.pool what x }
         ensures pool { self.new ≡ record self.old { pool = started result what x self.old.pool } }
@@ -108,8 +109,8 @@ impl ObjectPool {
         handler
     }
 
-    /// The handler of an event has returned. The event is quiet again; answers whether it is to be freed now, as a timer is,
-    /// and each event that was to be freed while its handler ran.
+    /// Ends the handler of an event, which has returned. The event is quiet again; answers whether it is to be freed
+    /// now, as a timer is, and each event that was to be freed while its handler ran.
     pub fn finish(&mut self, what: What, x: Obj) -> bool
         requires is { is_row self.old.pool.rows x ≡ true }
         requires live { is_dying self.old.pool.rows x ≡ false }

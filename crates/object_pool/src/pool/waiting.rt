@@ -10,7 +10,8 @@ use crate::pool::ObjectPool;
 use tree_specs::{Handler, Kind, Name, Obj, Owner};
 
 impl ObjectPool {
-    /// An event is to come soon, after all others, and this handler is to run then. One that waits already goes to the end.
+    /// Schedules an event: it comes soon, after all others, and this handler runs then. One that waits already goes to
+    /// the end.
     pub fn schedule(&mut self, x: Obj, handler: Handler)
         requires { self.old.ready ≡ true }
         ensures { self.new ≡ record self.old { pool = scheduled (handled self.old.pool x handler) x; ready = false } }
@@ -20,15 +21,15 @@ impl ObjectPool {
         self.events.schedule(x, handler);
     }
 
-    /// An event doesn't come soon any more.
+    /// Takes an event out of those that come soon. Nothing changes where it isn't among them.
     pub fn unschedule(&mut self, x: Obj)
         ensures { self.new ≡ record self.old { pool = unscheduled self.old.pool x } }
     {
         self.events.unschedule(x);
     }
 
-    /// Adds a timer as the newest child of an owner, and gives its number. It is to come at a time, in microseconds, and this
-    /// handler is to run then.
+    /// Adds a timer as the newest child of an owner, and gives its number. It comes at a time, in microseconds, and
+    /// this handler runs then.
     pub fn add_timer(&mut self, owner: Owner, time: u64, handler: Handler) -> Obj
         requires ready { self.old.ready ≡ true }
         requires few { length self.old.pool.rows < row_limit }
@@ -45,7 +46,7 @@ impl ObjectPool {
         timer
     }
 
-    /// How many events wait for their turn. With the memory for a call it is made sure that they can be counted.
+    /// How many events wait for their turn. Where the memory for a call is taken, they can be counted.
     pub fn pending(&self) -> u64
         requires { self.now.ready ≡ true }
         ensures { result ≡ length self.now.pool.soon + length self.now.pool.times + length self.now.pool.ring }

@@ -10,9 +10,9 @@ use crate::pool::ObjectPool;
 use tree_specs::{Handler, Kind, Memory, Name, Obj, Owner, Want};
 
 impl ObjectPool {
-    /// Adds an event on a descriptor as the newest child of an owner, and gives its number. It waits for these flags (1 for
-    /// reading, 2 for writing), and this handler is to run when the descriptor is ready for one of them. It is looked at after
-    /// all others.
+    /// Adds an event on a descriptor as the newest child of an owner, and gives its number. It waits for these flags (1
+    /// for reading, 2 for writing), and this handler is to run when the descriptor is ready for one of them. It is
+    /// looked at after all others.
     pub fn add_descriptor(&mut self, owner: Owner, fd: u32, flags: u32, handler: Handler) -> Obj
         requires ready { self.old.ready ≡ true }
         requires few { length self.old.pool.rows < row_limit }
@@ -44,14 +44,14 @@ impl ObjectPool {
         self.events.flags(x)
     }
 
-    /// An event on a descriptor waits for these flags from now on. Nothing changes where it watches nothing.
+    /// Sets the flags that an event on a descriptor waits for. Nothing changes where it watches nothing.
     pub fn set_flags(&mut self, x: Obj, flags: u32)
         ensures { self.new ≡ record self.old { pool = rewatch self.old.pool x (flagged flags) } }
     {
         self.events.set_flags(x, flags);
     }
 
-    /// The descriptor of an event is closed with it. Nothing changes where it watches nothing.
+    /// Marks the descriptor of an event to be closed with it. Nothing changes where it watches nothing.
     pub fn set_closing(&mut self, x: Obj)
         ensures { self.new ≡ record self.old { pool = rewatch self.old.pool x closing } }
     {
@@ -65,8 +65,8 @@ impl ObjectPool {
         self.events.is_watched(fd)
     }
 
-    /// The descriptors that are watched for something, and what for, in the order in which they are looked at, in place of
-    /// what was there. After want of memory nothing is given.
+    /// Gives the descriptors that are watched for something, and what for, in the order in which they are looked at, in
+    /// place of what was in `out`. If memory runs out, nothing is given.
     pub fn wants(&self, out: &mut Vec<Want>) -> Result<(), Memory>
         ensures wants { OnOk result (out.new.items ≡ wanted_of self.now.pool.ring) }
         ensures nothing { OnErr result (out.new.items ≡ []) }
@@ -81,7 +81,7 @@ impl ObjectPool {
         self.events.is_open(fd)
     }
 
-    /// A descriptor is open from now on.
+    /// Marks a descriptor as open.
     pub fn open(&mut self, fd: u32)
         requires { self.old.ready ≡ true }
         ensures { self.new ≡ record self.old { pool = open_descriptor self.old.pool fd; ready = false } }
@@ -91,7 +91,7 @@ impl ObjectPool {
         self.events.open(fd);
     }
 
-    /// A descriptor is open no more.
+    /// Marks a descriptor as closed.
     pub fn close(&mut self, fd: u32)
         ensures { self.new ≡ record self.old { pool = close_descriptor self.old.pool fd } }
     {
