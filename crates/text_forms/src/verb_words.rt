@@ -1,4 +1,6 @@
 //! The words of verbs. Few have the same number of letters: a word is compared with those alone that have as many as it.
+// In an arm of a byte string each byte is known: together they are the word.
+#![tactic(auto, using(std::proofs::lemmas::Slice::Eq::text_from_reads))]
 
 ghost use Rattle.std.specs.Prelude.{nat_eq, nat_lt};
 ghost use Rattle.text_forms.specs.Verbs.{forms_of, IsVerb, IsVerbIn};
