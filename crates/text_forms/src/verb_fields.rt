@@ -21,6 +21,17 @@ macro_rules! call {
     };
 }
 
+/// The call of this verb, which has no fields.
+fn bare_call(verb: BareVerb) -> Call
+    ensures { result ≡ bare_call verb }
+{
+    match verb {
+        BareVerb::Pending => Call::Pending,
+        BareVerb::Now => Call::Now,
+        BareVerb::Turn => Call::Turn,
+    }
+}
+
 /// The call of this verb on an object.
 fn object_call(verb: ObjectVerb, x: Obj) -> Call
     ensures { result ≡ object_call verb x }
@@ -143,17 +154,6 @@ fn read_size(verb: SizeVerb, fields: &mut Fields) -> Result<Call, FormFault>
     match verb {
         SizeVerb::New => Ok(Call::New { owner, size, name }),
         SizeVerb::Req => Ok(Call::Req { owner, size, name }),
-    }
-}
-
-/// The call of this verb, which has no fields.
-fn bare_call(verb: BareVerb) -> Call
-    ensures { result ≡ bare_call verb }
-{
-    match verb {
-        BareVerb::Pending => Call::Pending,
-        BareVerb::Now => Call::Now,
-        BareVerb::Turn => Call::Turn,
     }
 }
 

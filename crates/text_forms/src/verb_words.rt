@@ -1,4 +1,6 @@
-//! The words of verbs. Few have the same number of letters: a word is compared with those alone that have as many as it.
+//! The words of verbs. A word is compared with those alone that have as many letters as it, a dozen at most.
+// In an arm of a byte string each byte is known: together they are the word.
+#![tactic(auto, using(std::proofs::lemmas::Slice::Eq::text_from_reads))]
 
 ghost use Rattle.std.specs.Prelude.{nat_eq, nat_lt};
 ghost use Rattle.text_forms.specs.Verbs.{forms_of, IsVerb, IsVerbIn};
@@ -9,7 +11,7 @@ use crate::verb::{
 };
 
 /// The verb that this word of three letters or fewer is.
-fn verb_of_3(word: &[u8]) -> Option<Verb>
+fn short_verb(word: &[u8]) -> Option<Verb>
     ensures { IsVerbIn (forms_of (λ n. nat_lt n 4)) result word.now }
 {
     match word {
@@ -111,7 +113,7 @@ fn verb_of_8(word: &[u8]) -> Option<Verb>
 }
 
 /// The verb that this word of nine letters or more is.
-fn verb_of_9(word: &[u8]) -> Option<Verb>
+fn long_verb(word: &[u8]) -> Option<Verb>
     ensures { IsVerbIn (forms_of (λ n. nat_lt 8 n)) result word.now }
 {
     match word {
@@ -129,12 +131,12 @@ pub(crate) fn read_verb(word: &[u8]) -> Option<Verb>
     ensures { IsVerb result word.now }
 {
     match word.len() {
-        0..=3 => verb_of_3(word),
+        0..=3 => short_verb(word),
         4 => verb_of_4(word),
         5 => verb_of_5(word),
         6 => verb_of_6(word),
         7 => verb_of_7(word),
         8 => verb_of_8(word),
-        _ => verb_of_9(word),
+        _ => long_verb(word),
     }
 }
