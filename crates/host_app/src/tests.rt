@@ -112,13 +112,8 @@ fn each_schedule_has_its_transcript_or_its_first_refused_line(rt: HostRuntime) -
         ),
     ];
     for (bytes, status, out, err) in cases {
-        ends(
-            &rt,
-            &run_with(&rt, bytes, 4096, &[], &[])?,
-            status,
-            out,
-            err,
-        );
+        let told = run_with(&rt, bytes, 4096, &[], &[])?;
+        ends(&rt, &told, status, out, err);
     }
     Ok(())
 }

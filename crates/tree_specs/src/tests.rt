@@ -9,14 +9,17 @@ fn says<E: Display + Drop>(rt: &impl Abort, error: E, want: &str) {
     assert_eq!(rt; text.as_str(), want);
 }
 
+// Each refusal says this.
+fn each_says(rt: &impl Abort, cases: &[(Refusal, &str)]) {
+    for (refusal, want) in cases {
+        says(rt, *refusal, want);
+    }
+}
+
 #[test]
-fn each_refusal_has_its_message(rt: HostRuntime) {
+fn each_refusal_for_what_an_object_is_has_its_message(rt: HostRuntime) {
     let object = Obj(3);
     let cases = [
-        (
-            Refusal::NoSuch(9),
-            "there is no object, and no open descriptor, with the number 9",
-        ),
         (
             Refusal::WrongKind(object),
             "the call takes no object of the kind of object 3",
@@ -30,6 +33,19 @@ fn each_refusal_has_its_message(rt: HostRuntime) {
             Refusal::Refused { object, answer: 7 },
             "the destructor of object 3 returned 7",
         ),
+        (Refusal::Dying(object), "object 3 is being freed"),
+        (
+            Refusal::BadState { object, state: 2 },
+            "the request object 3 is in state 2",
+        ),
+    ];
+    each_says(&rt, &cases);
+}
+
+#[test]
+fn each_refusal_for_an_owner_has_its_message(rt: HostRuntime) {
+    let object = Obj(3);
+    let cases = [
         (
             Refusal::NotParent {
                 object,
@@ -44,7 +60,6 @@ fn each_refusal_has_its_message(rt: HostRuntime) {
             },
             "object 4 is object 3, or inside it",
         ),
-        (Refusal::Dying(object), "object 3 is being freed"),
         (
             Refusal::OverLimit {
                 row: object,
@@ -54,6 +69,17 @@ fn each_refusal_has_its_message(rt: HostRuntime) {
             },
             "50 bytes more are wanted inside object 3, which counts 200 of at most 240",
         ),
+    ];
+    each_says(&rt, &cases);
+}
+
+#[test]
+fn each_other_refusal_has_its_message(rt: HostRuntime) {
+    let cases = [
+        (
+            Refusal::NoSuch(9),
+            "there is no object, and no open descriptor, with the number 9",
+        ),
         (
             Refusal::Full(1_048_576),
             "1048576 objects are live, and no more are possible",
@@ -61,18 +87,12 @@ fn each_refusal_has_its_message(rt: HostRuntime) {
         (Refusal::Spent, "no serial number is left"),
         (Refusal::InUse(5), "descriptor 5 has an event already"),
         (
-            Refusal::BadState { object, state: 2 },
-            "the request object 3 is in state 2",
-        ),
-        (
             Refusal::TooBig(268_435_456),
             "268435456 bytes are too many for one object",
         ),
         (Refusal::Nested, "a turn within a routine"),
     ];
-    for (refusal, want) in cases.iter() {
-        says(&rt, *refusal, want);
-    }
+    each_says(&rt, &cases);
 }
 
 #[test]
