@@ -160,9 +160,7 @@ fn set_or_tell(call: Call, pool: &mut ObjectPool) -> Motion
     requires same_objects { is_making call ≡ false }
     requires ready { pool.old.ready ≡ true }
     requires allowed { AllPassed pool.old.pool (tests call) }
-    requires no_report { report_of call ≡ None }
     requires reference { RefsMayGo pool.old.pool.rows }
-    requires queues { QueuesAreKept pool.old.pool }
     ensures goes { ReadyFor result pool.new.ready }
     ensures works { pool.new.works ≡ pool.old.works }
     ensures moved { (q : AskData) → move_of q result pool.new.pool ≡ plan_step q (plan pool.old.pool call) pool.old.pool }
@@ -208,7 +206,6 @@ fn do_at_once(call: Call, pool: &mut ObjectPool) -> Motion
     requires at_once { is_work call ≡ false }
     requires ready { pool.old.ready ≡ true }
     requires allowed { AllPassed pool.old.pool (tests call) }
-    requires no_report { report_of call ≡ None }
     requires reference { RefsMayGo pool.old.pool.rows }
     requires queues { QueuesAreKept pool.old.pool }
     ensures goes { ReadyFor result pool.new.ready }
@@ -250,11 +247,11 @@ fn do_at_once(call: Call, pool: &mut ObjectPool) -> Motion
 /// Does a call that isn't refused and whose reply takes no memory: any call but a report.
 #[tactic(auto, using(crate::proofs::Allowed::may_go, crate::proofs::Allowed::may_go_itself))]
 fn effect(call: Call, pool: &mut ObjectPool) -> Motion
+    requires queues { QueuesAreKept pool.old.pool }
+    requires reference { RefsMayGo pool.old.pool.rows }
     requires ready { pool.old.ready ≡ true }
     requires allowed { AllPassed pool.old.pool (tests call) }
     requires no_report { report_of call ≡ None }
-    requires reference { RefsMayGo pool.old.pool.rows }
-    requires queues { QueuesAreKept pool.old.pool }
     ensures goes { ReadyFor result pool.new.ready }
     ensures works { pool.new.works ≡ pool.old.works }
     ensures moved { (q : AskData) → move_of q result pool.new.pool ≡ plan_step q (plan pool.old.pool call) pool.old.pool }
