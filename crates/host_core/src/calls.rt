@@ -279,6 +279,7 @@ fn effect(call: Call, pool: &mut ObjectPool) -> Motion
 }
 
 /// Does a call. Where a test isn't passed, the first refusal that applies is the reply, and nothing changes.
+#[inline(always)]
 #[tactic(auto, using(crate::proofs::Allowed::refused_step, crate::proofs::Allowed::allowed_step, crate::proofs::Allowed::all_passed))]
 pub fn act(call: Call, pool: &mut ObjectPool) -> Motion
     requires ready { pool.old.ready ≡ true }

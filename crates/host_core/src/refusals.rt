@@ -161,6 +161,7 @@ fn check_small(owner: Owner, pool: &ObjectPool) -> Result<(), Refusal>
 }
 
 /// The test that an object is there, and one more.
+#[inline(always)]
 fn check_known(x: Obj, second: Test, pool: &ObjectPool) -> Result<(), Refusal>
     ensures { result ≡ checked (refused pool.now.pool (Test.IsObject x ∷ second ∷ [])) }
 {
