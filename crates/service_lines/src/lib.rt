@@ -11,6 +11,8 @@ mod incoming;
 mod notifying;
 mod order;
 mod serving;
+#[cfg(test)]
+mod tests;
 mod triggering;
 
 pub use accepting::{accepting_call, after_accepting};
