@@ -89,12 +89,18 @@ impl Incoming {
         Ok(())
     }
 
-    /// Drops what came of a line that was too long, and its LF.
+    /// Drops what came of a line that was too long, with its LF. Whether anything was dropped.
     #[tactic(auto, using(crate::proofs::Cutting::skipped_line, crate::proofs::Cutting::after_none))]
-    fn skip(&mut self)
-        requires { self.old.dropping ≡ true }
-        ensures { self.new ≡ resumed self.old }
+    pub fn skip(&mut self) -> bool
+        ensures resumed { self.new ≡ resumed self.old }
+        ensures kept { result ≡ false → self.new ≡ self.old }
     {
+        if !self.skips {
+            return false;
+        }
+        if self.bytes.is_empty() {
+            return false;
+        }
         match line_end(self.bytes.as_slice()) {
             Some(end) => {
                 self.bytes.advance(end + 1);
@@ -102,26 +108,16 @@ impl Incoming {
             }
             None => self.bytes.clear(),
         }
+        true
     }
 
     /// What stands in front.
     #[tactic(auto, using(crate::proofs::Cutting::front_is))]
-    fn front(&self) -> Cut
+    pub fn cut(&self) -> Cut
         ensures { IsCut result self.now.came }
     {
         let bytes = self.bytes.as_slice();
         cut_by(line_end(bytes), bytes.len())
-    }
-
-    /// What comes next of them. What is left of a line that was too long is dropped first.
-    pub fn cut(&mut self) -> Cut
-        ensures resumed { self.new ≡ resumed self.old }
-        ensures cut { IsCut result self.new.came }
-    {
-        if self.skips {
-            self.skip();
-        }
-        self.front()
     }
 
     /// The line of so many bytes that stands in front.

@@ -87,6 +87,7 @@ fn reads_no_order(rt: HostRuntime) {
 
 // The line in front, which is done then; one that is too long is told as `long`. None where no whole line came.
 fn take_line(alloc: Global, incoming: &mut Incoming) -> Result<Option<Vec<u8>>, Fail> {
+    incoming.skip();
     match incoming.cut() {
         Cut::Line(length) => {
             let line = Vec::from_slice(alloc, incoming.line(length))?;
@@ -146,13 +147,12 @@ fn writes(
     connection: &Connection,
     want: usize,
 ) -> Result<(), Fail> {
-    match serving_call(Serving::Write, alloc, Obj(3), connection)? {
-        Some(Call::Write { fd, bytes }) => {
-            assert_eq!(rt; fd, 5);
-            assert_eq!(rt; bytes.as_slice().len(), want);
-        }
-        _ => assert_eq!(rt; want, 0),
-    }
+    let call = serving_call(Serving::Write, alloc, Obj(3), connection)?;
+    let count = match &call {
+        Some(Call::Write { bytes, .. }) => bytes.as_slice().len(),
+        _ => 0,
+    };
+    assert_eq!(rt; count, want);
     Ok(())
 }
 
