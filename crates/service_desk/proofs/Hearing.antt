@@ -1,5 +1,5 @@
 -- What is heard.
-use Rattle.std.proofs.Common.{◌≡◌, ℕ, List, Option, Some, None, refl, sym, ◌∙◌, ap}
+use Rattle.std.proofs.Common.{◌≡◌, ℕ, List, [], ◌∷◌, Option, Some, None, refl, sym, ◌∙◌, ap}
 use Rattle.tree_specs.specs.declared.object.Obj.{Obj}
 use Rattle.tree_specs.specs.declared.reply.Reply.{Reply}
 use Rattle.tree_specs.specs.declared.reply.Reply.TheVariants as reply
@@ -11,6 +11,8 @@ use Rattle.service_rules.specs.declared.task.Fulfilled.TheVariants as fulfilled
 use Rattle.service_rules.specs.declared.task.Notice.{Notice}
 use Rattle.service_rules.specs.declared.task.Notifying.{Notifying}
 use Rattle.service_rules.specs.declared.task.Notifying.TheVariants as notifying
+use Rattle.service_rules.specs.declared.task.Run.{Run}
+use Rattle.service_rules.specs.declared.task.Run.TheVariants.{Own, Outside}
 use Rattle.service_rules.specs.declared.task.Serving.{Serving}
 use Rattle.service_rules.specs.declared.task.Serving.TheVariants as serving
 use Rattle.service_rules.specs.declared.task.Task.{Task}
@@ -19,8 +21,8 @@ use Rattle.service_rules.specs.declared.task.Triggering.{Triggering}
 use Rattle.service_rules.specs.Knowledge.{Connection, Knowledge, connection_of, with_connection, without_run, saying}
 use Rattle.service_rules.specs.Answers.{answer_line}
 use Rattle.service_rules.specs.Tasks.{after_accepting, after_fulfilling, after_writing, flags_to_set}
-use Rattle.service_rules.specs.Routines.{Heard, then_does, accepted, ordered, sent, served, notified, serving_hears, notifying_hears, triggering_hears, hears}
-use Rattle.service_desk.specs.Desks.{changed, changed_at}
+use Rattle.service_rules.specs.Routines.{Heard, then_does, accepted, ordered, sent, served, notified, serving_hears, notifying_hears, triggering_hears, hears, resumes}
+use Rattle.service_desk.specs.Desks.{innermost_of, changed, changed_at}
 use Rattle.service_desk.proofs.Connections.{found_put}
 
 -- ---- a connection that is changed
@@ -89,3 +91,11 @@ hears-apart d (Serve s at) r = serving-apart d s at r (connection_of d s)
 hears-apart d (Notify n at) r = notifying-apart d n at r (connection_of d n.session)
 hears-apart d (Triggers s at) r = triggering-apart d s at r (connection_of d s)
 hears-apart d Return r = refl
+
+pub own-resumed : (d mid new : Knowledge) (t next : Task) (r : Reply) → innermost_of d.runs ≡ Some (Own t) → then_does mid next ≡ hears d t r → new ≡ without_run mid → then_does new next ≡ resumes d r d.runs
+own-resumed d mid new t next r own heard is = ap (λ (k : Knowledge). then_does k next) is ∙ ap without_its_run heard ∙ sym (hears-apart d t r) ∙ from_runs d.runs own
+  where
+    from_runs : (runs : List Run) → innermost_of runs ≡ Some (Own t) → hears (without_run d) t r ≡ resumes d r runs
+    from_runs [] e = cc
+    from_runs (Own u ∷ runs) e = let same : t ≡ u = cc in ap (λ (x : Task). hears (without_run d) x r) same
+    from_runs (Outside ∷ runs) e = cc
