@@ -1,5 +1,5 @@
 -- What stands in front of a connection, and what is done with it.
-use Rattle.std.proofs.Common.{◌≡◌, ℕ, ◌+◌, Bool, true, false, List, [], take, drop, Option, Some, None, Result, Ok, Err, IfSome, refl, sym, ◌∙◌, ap, subst}
+use Rattle.std.proofs.Common.{◌≡◌, ℕ, ◌+◌, ◌<◌, ◌≤◌, Bool, true, false, List, [], length, length-drop, arith, take, drop, Option, Some, None, Result, Ok, Err, IfSome, IsSomeAnd, refl, sym, ◌∙◌, ap, subst}
 use Rattle.std.specs.Ordering.{nat_cmp}
 use Rattle.std.specs.FinMap as map
 use Rattle.std.specs.FinMap.{FinMap, entries}
@@ -32,8 +32,8 @@ use Rattle.service_lines.specs.Cuts.{Came, resumed, IsCut}
 use Rattle.service_lines.specs.declared.incoming.Cut.{Cut}
 use Rattle.service_lines.specs.declared.incoming.Cut.TheVariants as cuts
 use Rattle.service_desk.specs.Desks.{known, changed, changed_at}
-use Rattle.service_desk.specs.Fronts.{came_on, IsResumed, IsPart, IsFormless, IsLong, Asks, HasFormless, HasLong, HasNoLine, HasOrder, CutFits, lines_of, ServesTheSame, resumed_on, without_line, without_long, line_done, NamesItsOwn, StrangeServed, ReadsFront}
-use Rattle.service_desk.proofs.Connections.{put_held}
+use Rattle.service_desk.specs.Fronts.{came_on, IsResumed, IsPart, IsFormless, IsLong, Asks, HasFormless, HasLong, HasNoLine, HasOrder, CutFits, lines_of, DoneFits, waiting, resumed_on, without_line, without_long, line_done, NamesItsOwn, StrangeServed, ReadsFront}
+use Rattle.service_desk.proofs.Connections.{found_put, put_held}
 use Rattle.service_desk.proofs.SameLines.{no-rest, serves-changed, resumed-same, long-same, formless-same, stranger-same, nothing-same, orders}
 
 -- ---- how it begins
@@ -61,14 +61,36 @@ formless-read n found r fault e f h = subst (λ (x : FormFault). ReadsFront (Err
 
 -- ---- what is done with it
 
-pub dropped-served : (s : Obj) (d new : Knowledge) → new ≡ changed s resumed_on d → ServesTheSame s d new
-dropped-served s d new is p = serves-changed p s d new resumed_on is (λ c found. resumed-same p s c)
+pub dropped-done : (s : Obj) (d new : Knowledge) → new ≡ changed s resumed_on d → waiting (connection_of new s) < waiting (connection_of d s) → DoneFits s d new
+dropped-done s d new is less = record { same = λ p. serves-changed p s d new resumed_on is (λ c found. resumed-same p s c); fewer = less }
 
-pub formless-served : (s : Obj) (n : ℕ) (d new : Knowledge) → HasFormless n (connection_of d s) → new ≡ changed s (λ c. saying form_line (without_line n c)) d → ServesTheSame s d new
-formless-served s n d new h is p = serves-changed p s d new (λ c. saying form_line (without_line n c)) is (λ c found. formless-same p s n c (subst (HasFormless n) found h))
+-- a change that leaves fewer bytes
+changed-fewer : (s : Obj) (d new : Knowledge) (change : Connection → Connection) → new ≡ changed s change d → IsSomeAnd (connection_of d s) (λ c. length (change c).came < length c.came) → waiting (connection_of new s) < waiting (connection_of d s)
+changed-fewer s d new change is less = subst (λ (k : Knowledge). waiting (connection_of k s) < waiting (connection_of d s)) (sym is) (at (connection_of d s) less)
+  where
+    at : (found : Option Connection) → IsSomeAnd found (λ c. length (change c).came < length c.came) → waiting (connection_of (changed_at s change found d) s) < waiting found
+    at None h = absurd h
+    at (Some c) h = subst (λ (o : Option Connection). waiting o < length c.came) (sym (found_put s.0 (change c) d.connections)) h
 
-pub long-served : (s : Obj) (d new : Knowledge) → HasLong (connection_of d s) → new ≡ changed s (λ c. saying long_line (without_long c)) d → ServesTheSame s d new
-long-served s d new h is p = serves-changed p s d new (λ c. saying long_line (without_long c)) is (λ c found. let l : IsLong c = subst HasLong found h in long-same p s c (drop long_limit c.came) l.begins l.long.front)
+line-fewer : (n : ℕ) (line : List ℕ) (found : Option Connection) → HasFormless n found → IsSomeAnd found (λ c. length (saying line (without_line n c)).came < length c.came)
+line-fewer n line None h = absurd h
+line-fewer n line (Some c) h = let within : n < length c.came = h.line.line.within in omega (arith, length-drop (n + 1) c.came)
+
+long-fewer : (found : Option Connection) → HasLong found → IsSomeAnd found (λ c. length (saying long_line (without_long c)).came < length c.came)
+long-fewer None h = absurd h
+long-fewer (Some c) h = let within : long_limit ≤ length c.came = h.long.within in omega (arith, length-drop long_limit c.came)
+
+pub formless-done : (s : Obj) (n : ℕ) (d new : Knowledge) → HasFormless n (connection_of d s) → new ≡ changed s (λ c. saying form_line (without_line n c)) d → DoneFits s d new
+formless-done s n d new h is = record {
+  same = λ p. serves-changed p s d new (λ c. saying form_line (without_line n c)) is (λ c found. formless-same p s n c (subst (HasFormless n) found h));
+  fewer = changed-fewer s d new (λ c. saying form_line (without_line n c)) is (line-fewer n form_line (connection_of d s) h);
+}
+
+pub long-done : (s : Obj) (d new : Knowledge) → HasLong (connection_of d s) → new ≡ changed s (λ c. saying long_line (without_long c)) d → DoneFits s d new
+long-done s d new h is = record {
+  same = λ p. serves-changed p s d new (λ c. saying long_line (without_long c)) is (λ c found. let l : IsLong c = subst HasLong found h in long-same p s c (drop long_limit c.came) l.begins l.long.front);
+  fewer = changed-fewer s d new (λ c. saying long_line (without_long c)) is (long-fewer (connection_of d s) h);
+}
 
 pub strange-served : (s : Obj) (n tag : ℕ) (x : Obj) (d new : Knowledge) → new ≡ changed s (λ c. saying (answer_line tag (No (NoSuch x.0))) (without_line n c)) d → StrangeServed s n tag x d new
 strange-served s n tag x d new is call h p names = serves-changed p s d new (λ c. saying (answer_line tag (No (NoSuch x.0))) (without_line n c)) is (λ c found. stranger-same p s n tag call x c (subst (HasOrder n tag (order.Call call)) found h) names)
