@@ -17,11 +17,14 @@ use Rattle.service_rules.specs.declared.task.Kept.{Kept}
 use Rattle.service_rules.specs.declared.task.Run.{Run}
 use Rattle.service_rules.specs.declared.task.Serving.{Serving}
 use Rattle.service_rules.specs.declared.task.Task.{Task}
+use Rattle.service_rules.specs.declared.task.Task.TheVariants.{Return}
+use Rattle.service_rules.specs.declared.task.Serving.TheVariants as serving
+use Rattle.tree_specs.specs.Tree.Pool.{Pool}
 use Rattle.service_rules.specs.Lines.{front_of, after_newline, long_limit}
 use Rattle.service_rules.specs.Lines.Front.{Whole, Long, Part}
 use Rattle.service_rules.specs.Knowledge.{Connection, Knowledge, connection_of, with_connection}
 use Rattle.service_rules.specs.Answers.{form_line, answer_line}
-use Rattle.service_rules.specs.Routines.{does, served, fulfilling_for, order_call}
+use Rattle.service_rules.specs.Routines.{does, serves, served, fulfilling_for, order_call}
 use Rattle.service_rules.specs.Routines.Next.{Does}
 use Rattle.service_rules.specs.Tasks.{after_reading}
 use Rattle.service_lines.specs.Cuts.{resumed, IsCut}
@@ -101,14 +104,22 @@ strange-served s n tag x d new is call h p names =
     serves-changed p s d new (line_answered n (answer_line tag (No (NoSuch x.0)))) is (λ c found. stranger-same p s n tag call x c (there (Asks n tag (order.Call call)) c s d found h) names)
 
 -- where no line is left, the connection goes on as after reading
-pub nothing-served : (m : FinMap nat_cmp Connection) (kept : List (ℕ × Kept)) (runs : List Run) (s : Obj) (c : Connection) (d : Knowledge) → known (entries m) kept runs ≡ d → map.get m s.0 ≡ Some c → HasNoLine s d
-    → (at : Option Serving) (t : Task) → at ≡ after_reading c → t ≡ served s at → DoesTheSame s d d t
-nothing-served m kept runs s c d is held none at t which task p =
+nothing-known : (m : FinMap nat_cmp Connection) (kept : List (ℕ × Kept)) (runs : List Run) (s : Obj) (t : Task) (p : Pool) (found : Option Connection)
+    → (let k : Knowledge = known (entries m) kept runs in connection_of k s ≡ found → HasNoLine s k → ((c : Connection) → connection_of k s ≡ Some c → t ≡ served s (after_reading c)) → (connection_of k s ≡ None → t ≡ Return) → does k p t ≡ does k p (lines_of s))
+nothing-known m kept runs s t p None e none some missing =
     let k : Knowledge = known (entries m) kept runs in
-    let found : connection_of k s ≡ Some c = sym (found_listed m s.0) ∙ held in
-    let again : with_connection s c k ≡ k = ap (λ (l : List (ℕ × Connection)). known l kept runs) (put_held m s.0 c held) in
-    let goes_on : HasNoLine s k → does k p t ≡ does k p (lines_of s) = λ h. ap (does k p) (task ∙ ap (served s) which) ∙ nothing-same p s k c found again (subst (λ (o : Option Connection). IfSome o IsPart) found h) in
-    subst (λ (x : Knowledge). HasNoLine s x → does x p t ≡ does x p (lines_of s)) is goes_on none
+    ap (does k p) (missing e) ∙ sym (ap (serves k p s serving.Lines) e)
+nothing-known m kept runs s t p (Some c) e none some missing =
+    let k : Knowledge = known (entries m) kept runs in
+    let again : with_connection s c k ≡ k = ap (λ (l : List (ℕ × Connection)). known l kept runs) (put_held m s.0 c (found_listed m s.0 ∙ e)) in
+    ap (does k p) (some c e) ∙ nothing-same p s k c e again (subst (λ (o : Option Connection). IfSome o IsPart) e none)
+
+pub nothing-served : (m : FinMap nat_cmp Connection) (kept : List (ℕ × Kept)) (runs : List Run) (s : Obj) (d : Knowledge) (t : Task) → known (entries m) kept runs ≡ d → HasNoLine s d
+    → ((c : Connection) → connection_of d s ≡ Some c → t ≡ served s (after_reading c)) → (connection_of d s ≡ None → t ≡ Return) → DoesTheSame s d (known (entries m) kept runs) t
+nothing-served m kept runs s d t is none some missing p =
+    let k : Knowledge = known (entries m) kept runs in
+    subst (λ (x : Knowledge). HasNoLine s x → ((c : Connection) → connection_of x s ≡ Some c → t ≡ served s (after_reading c)) → (connection_of x s ≡ None → t ≡ Return) → does k p t ≡ does x p (lines_of s)) is
+    (nothing-known m kept runs s t p (connection_of k s) refl) none some missing
 
 pub orders-served : (s : Obj) (d : Knowledge) (o : Order) (call : Call) (at : Fulfilling) → at ≡ fulfilling_for o → ((c : Connection) → connection_of d s ≡ Some c → order_call s c o ≡ Some call) → OrderServed s o call at d
 orders-served s d o call at same calls n tag h p own = go (connection_of d s) refl h

@@ -1,5 +1,5 @@
-//! The lines of a connection: how its bytes are cut, what a line asks for, what it is answered, and what the routines of the
-//! service do call by call.
+//! The lines of a connection: how its bytes are cut, what a line asks for, what it is answered, and what the routines of
+//! the service do call by call.
 #![tactic(auto)]
 
 mod accepting;
