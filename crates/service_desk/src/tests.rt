@@ -115,25 +115,17 @@ fn does_lines(rt: &impl Abort, desk: &mut Desk, moment: Moment) -> Result<(), Fa
     Ok(())
 }
 
-// A desk with the session, whose descriptor is 5.
-fn connected(rt: &impl Abort, alloc: Global) -> Result<Desk, Fail> {
-    let mut desk = Desk::new(alloc);
-    calls(rt, alloc, &mut desk, listening(None), "accept 0")?;
+// The session connects, with the descriptor 5.
+fn connects(rt: &impl Abort, alloc: Global, desk: &mut Desk) -> Result<(), Fail> {
+    calls(rt, alloc, desk, listening(None), "accept 0")?;
     let accepted = listening(Some(Reply::Number(5)));
-    calls(rt, alloc, &mut desk, accepted, "new 1 0 session")?;
+    calls(rt, alloc, desk, accepted, "new 1 0 session")?;
     let made = listening(Some(Reply::Number(SESSION.0)));
-    calls(rt, alloc, &mut desk, made, "fd 3 5 1 2 3")?;
+    calls(rt, alloc, desk, made, "fd 3 5 1 2 3")?;
     let watched = listening(Some(Reply::Number(EVENT.0)));
-    calls(rt, alloc, &mut desk, watched, "autoclose 4")?;
-    calls(
-        rt,
-        alloc,
-        &mut desk,
-        listening(Some(Reply::Ok)),
-        "queue 3 jobs",
-    )?;
-    returns(rt, &mut desk, listening(Some(Reply::Number(6))))?;
-    Ok(desk)
+    calls(rt, alloc, desk, watched, "autoclose 4")?;
+    calls(rt, alloc, desk, listening(Some(Reply::Ok)), "queue 3 jobs")?;
+    returns(rt, desk, listening(Some(Reply::Number(6))))
 }
 
 // These bytes are read.
@@ -186,9 +178,9 @@ fn ends_lines(desk: &mut Desk) -> Result<(), Fail> {
     }
 }
 
-#[test]
-fn keeps_whoever_connects(rt: HostRuntime) -> Result<(), Fail> {
-    let mut desk = connected(&rt, rt.alloc())?;
+// The connection is kept until the session is freed.
+fn is_kept(rt: &impl Abort, alloc: Global, desk: &mut Desk) -> Result<(), Fail> {
+    connects(rt, alloc, desk)?;
     assert!(rt; desk.connection(SESSION).is_some());
     let freed = Event::Freed {
         object: SESSION,
@@ -201,63 +193,81 @@ fn keeps_whoever_connects(rt: HostRuntime) -> Result<(), Fail> {
 }
 
 #[test]
-fn answers_lines_in_their_order(rt: HostRuntime) -> Result<(), Fail> {
-    let alloc = rt.alloc();
-    let mut desk = connected(&rt, alloc)?;
-    reads(&rt, alloc, &mut desk, b"7 free 0\nx\n8 total 0\n")?;
-    refuses(&rt, &mut desk, 7, Obj(0))?;
-    answers(&rt, &mut desk)?;
-    orders(&rt, alloc, &mut desk, "total 3")?;
-    does_lines(&rt, &mut desk, serving(Some(Reply::Number(0))))?;
-    ends_lines(&mut desk)?;
+fn keeps_whoever_connects(rt: HostRuntime) -> Result<(), Fail> {
+    let mut desk = Desk::new(rt.alloc());
+    is_kept(&rt, rt.alloc(), &mut desk)
+}
+
+// The session connects, three lines come, and are answered in their order.
+fn does_three_lines(rt: &impl Abort, alloc: Global, desk: &mut Desk) -> Result<(), Fail> {
+    connects(rt, alloc, desk)?;
+    reads(rt, alloc, desk, b"7 free 0\nx\n8 total 0\n")?;
+    refuses(rt, desk, 7, Obj(0))?;
+    answers(rt, desk)?;
+    orders(rt, alloc, desk, "total 3")?;
+    does_lines(rt, desk, serving(Some(Reply::Number(0))))?;
+    ends_lines(desk)?;
     // The text of "7 no 1 0", "- form" and "8 0", each with its LF.
     let text = "write 5 37206e6f203120300a2d20666f726d0a3820300a";
-    does(&rt, alloc, &mut desk, text)?;
-    returns(&rt, &mut desk, serving(Some(Reply::Number(20))))
+    does(rt, alloc, desk, text)?;
+    returns(rt, desk, serving(Some(Reply::Number(20))))
+}
+
+#[test]
+fn answers_lines_in_their_order(rt: HostRuntime) -> Result<(), Fail> {
+    let mut desk = Desk::new(rt.alloc());
+    does_three_lines(&rt, rt.alloc(), &mut desk)
+}
+
+// A sleep begins.
+fn falls_asleep(rt: &impl Abort, alloc: Global, desk: &mut Desk) -> Result<(), Fail> {
+    reads(rt, alloc, desk, b"8 sleep 5\n")?;
+    orders(rt, alloc, desk, "req 3 0 sleep")?;
+    let made = serving(Some(Reply::Number(REQUEST.0)));
+    calls(rt, alloc, desk, made, "now")?;
+    let told = serving(Some(Reply::Number(100)));
+    calls(rt, alloc, desk, told, "endtime 9 105")?;
+    calls(rt, alloc, desk, serving(Some(Reply::Ok)), "callback 9 3 3")?;
+    does_lines(rt, desk, serving(Some(Reply::Ok)))?;
+    ends_lines(desk)
+}
+
+// It is over, and its line is answered.
+fn wakes(rt: &impl Abort, alloc: Global, desk: &mut Desk) -> Result<(), Fail> {
+    calls(rt, alloc, desk, notifying(None), "iserror 9")?;
+    let ended = notifying(Some(Reply::Pair(4, 0)));
+    calls(rt, alloc, desk, ended, "received 9")?;
+    calls(rt, alloc, desk, notifying(Some(Reply::Ok)), "free 9")?;
+    calls(rt, alloc, desk, notifying(Some(Reply::Ok)), "flags 4 3")?;
+    returns(rt, desk, notifying(Some(Reply::Ok)))
+}
+
+// It begins, and is over.
+fn sleeps(rt: &impl Abort, alloc: Global, desk: &mut Desk) -> Result<(), Fail> {
+    connects(rt, alloc, desk)?;
+    falls_asleep(rt, alloc, desk)?;
+    wakes(rt, alloc, desk)
 }
 
 #[test]
 fn answers_a_sleep_when_it_is_over(rt: HostRuntime) -> Result<(), Fail> {
-    let alloc = rt.alloc();
-    let mut desk = connected(&rt, alloc)?;
-    reads(&rt, alloc, &mut desk, b"8 sleep 5\n")?;
-    orders(&rt, alloc, &mut desk, "req 3 0 sleep")?;
-    let made = serving(Some(Reply::Number(REQUEST.0)));
-    calls(&rt, alloc, &mut desk, made, "now")?;
-    let told = serving(Some(Reply::Number(100)));
-    calls(&rt, alloc, &mut desk, told, "endtime 9 105")?;
-    calls(
-        &rt,
-        alloc,
-        &mut desk,
-        serving(Some(Reply::Ok)),
-        "callback 9 3 3",
-    )?;
-    does_lines(&rt, &mut desk, serving(Some(Reply::Ok)))?;
-    ends_lines(&mut desk)?;
-    calls(&rt, alloc, &mut desk, notifying(None), "iserror 9")?;
-    let ended = notifying(Some(Reply::Pair(4, 0)));
-    calls(&rt, alloc, &mut desk, ended, "received 9")?;
-    calls(&rt, alloc, &mut desk, notifying(Some(Reply::Ok)), "free 9")?;
-    calls(
-        &rt,
-        alloc,
-        &mut desk,
-        notifying(Some(Reply::Ok)),
-        "flags 4 3",
-    )?;
-    returns(&rt, &mut desk, notifying(Some(Reply::Ok)))
+    let mut desk = Desk::new(rt.alloc());
+    sleeps(&rt, rt.alloc(), &mut desk)
+}
+
+// A reply is shown while a routine of the outside runs.
+fn shows_while_open(rt: &impl Abort, desk: &mut Desk, replied: &Event) -> Result<(), Fail> {
+    assert!(rt; !desk.shows(replied));
+    desk.reserve_run()?;
+    desk.open_outside();
+    assert!(rt; desk.shows(replied));
+    desk.close_run();
+    assert!(rt; !desk.shows(replied));
+    Ok(())
 }
 
 #[test]
 fn shows_the_replies_of_the_outside(rt: HostRuntime) -> Result<(), Fail> {
     let mut desk = Desk::new(rt.alloc());
-    let replied = Event::Replied(Reply::Ok);
-    assert!(rt; !desk.shows(&replied));
-    desk.reserve_run()?;
-    desk.open_outside();
-    assert!(rt; desk.shows(&replied));
-    desk.close_run();
-    assert!(rt; !desk.shows(&replied));
-    Ok(())
+    shows_while_open(&rt, &mut desk, &Event::Replied(Reply::Ok))
 }
