@@ -1,10 +1,10 @@
 -- Reading piece by piece.
-use Rattle.std.proofs.Common.{◌≡◌, ◌≢◌, ℕ, suc, ◌+◌, ◌-◌, ◌<◌, ◌≤◌, Bool, true, false, not, eqb, ltb, ◌||◌, List, [], ◌∷◌, ◌++◌, length, Result, Ok, Err, refl, sym, ap, subst, ◌∙◌, append_assoc, arith, length-append}
+use Rattle.std.proofs.Common.{◌≡◌, ℕ, suc, ◌+◌, ◌<◌, ◌≤◌, Bool, true, false, not, eqb, ltb, ◌||◌, List, [], ◌∷◌, ◌++◌, length, Result, Ok, Err, refl, sym, ap, subst, ◌∙◌, append_assoc, arith, length-append}
 use Rattle.std.proofs.lemmas.List.{append-nil}
 use Rattle.std.proofs.lemmas.Bool.Decides.{nat_tests}
 use Rattle.tree_specs.specs.Texts.Lines.{Line, lines, lines_of_parts, is_over_limit, line_limit, lines_limit}
 use Rattle.line_pieces.specs.Cuts.{has_no_lf, ended_line}
-use Rattle.line_pieces.specs.Takings.{TakesLine, RefusesLimit, EndsWith, last_lines, TakesEnd}
+use Rattle.line_pieces.specs.Takings.{TakesLine, RefusesLimit, EndsWith, TakesEnd}
 use Rattle.line_pieces.specs.Readings.{Reading, from_line, found_now, Advances, Takes, IsBetweenBytes}
 use Rattle.line_pieces.proofs.LineLaws.{lines_ended, lines_from, lines_last, lines_some, plain_append}
 

@@ -1,10 +1,3 @@
-pub mod LineLaws
 pub mod TextLaws
-pub mod Unanswered
-pub mod ReplayLaws
-pub mod StateLaws
-pub mod CallLaws
-pub mod ByteLaws
-pub mod WholeLaws
-pub mod SessionLaws
-pub mod StoryLaws
+pub mod RunLaws
+pub mod PlayLaws
