@@ -1,3 +1,9 @@
 pub mod TextLaws
 pub mod RunLaws
 pub mod PlayLaws
+pub mod Unanswered
+pub mod HostLaws
+pub mod WholeLaws
+pub mod StageLaws
+pub mod SessionLaws
+pub mod StoryLaws

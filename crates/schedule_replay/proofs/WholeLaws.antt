@@ -1,5 +1,5 @@
 -- A whole replay, in the words of schedules and transcripts: their first line says what runs the others.
-use Rattle.std.proofs.Common.{◌≡◌, ℕ, ◌+◌, ◌<◌, ◌≤◌, Bool, true, false, ltb, ◌||◌, List, [], ◌∷◌, ◌++◌, length, Option, Some, None, Result, Ok, Err, refl, sym, ap, subst, ◌∙◌, arith}
+use Rattle.std.proofs.Common.{◌≡◌, ℕ, ◌+◌, ◌<◌, ◌≤◌, Bool, true, false, cond, ltb, ◌||◌, ◌⊎◌, inl, inr, List, [], ◌∷◌, ◌++◌, length, Option, Some, None, Result, Ok, Err, refl, sym, ap, subst, ◌∙◌, arith}
 use Rattle.std.specs.Io.KnownBytes.{Appends, IsAtEnd}
 use Rattle.std.specs.Prelude.{IfSome, is_some}
 use Rattle.std.specs.Str.{bytes_eq}
@@ -35,28 +35,30 @@ use Rattle.schedule_replay.proofs.TextLaws.{begins_nil}
 -- ---- what the first line says
 
 -- hosts run the others, or nothing does
-hosts-or-none : (m : Option Mode) → is_some (hosts_alone m) ≡ true → hosts_alone m ≡ Some pool_runner
-hosts-or-none (Some Pool) e = refl
-hosts-or-none (Some Service) e = absurd cc
-hosts-or-none None e = absurd cc
+hosts-or-none : (m : Option Mode) → (hosts_alone m ≡ None) ⊎ (hosts_alone m ≡ Some pool_runner)
+hosts-or-none (Some Pool) = inr refl
+hosts-or-none (Some Service) = inl refl
+hosts-or-none None = inl refl
+
+pub runs-or-none : (line : Line) → (runner_after pools line ≡ None) ⊎ (runner_after pools line ≡ Some pool_runner)
+runs-or-none line = by_ended line.ended
+  where
+    by_ended : (b : Bool) → (cond b (pools line.text) None ≡ None) ⊎ (cond b (pools line.text) None ≡ Some pool_runner)
+    by_ended true = hosts-or-none (mode_of line.text)
+    by_ended false = inl refl
 
 pub pools-run : (text : List ℕ) → is_some (pools text) ≡ true → pools text ≡ Some pool_runner
-pools-run text e = hosts-or-none (mode_of text) e
-
-none-runs : (m : Option Mode) → is_some (hosts_alone m) ≡ false → hosts_alone m ≡ None
-none-runs (Some Pool) e = absurd cc
-none-runs (Some Service) e = refl
-none-runs None e = refl
+pools-run text e = elim (hosts-or-none (mode_of text)) [ inl none ↦ (let f : false ≡ true = sym (ap is_some none) ∙ e in absurd cc) | inr some ↦ some ]
 
 pub nothing-runs : (text : List ℕ) → is_some (pools text) ≡ false → pools text ≡ None
-nothing-runs text e = none-runs (mode_of text) e
+nothing-runs text e = elim (hosts-or-none (mode_of text)) [ inl none ↦ none | inr some ↦ (let f : true ≡ false = sym (ap is_some some) ∙ e in absurd cc) ]
 
 -- a line past a limit is no header
 long-text : (text : List ℕ) → 18 < length text → pools text ≡ None
 unfolding mode_of
 long-text text lt = by_test (bytes_eq text pool_header) refl
   where
-    other : (c : Bool) → hosts_alone (elim c as (λ _. Option Mode) [ true ↦ Some Service | false ↦ None ]) ≡ None
+    other : (c : Bool) → hosts_alone (cond c (Some Service) None) ≡ None
     other true = refl
     other false = refl
 
@@ -74,7 +76,7 @@ over-long line over = by_test (ltb line_limit (length line.text)) refl over
 no-header : (line : Line) → is_over_limit 1 line ≡ true → runner_after pools line ≡ None
 no-header line over = by_ended line.ended
   where
-    by_ended : (b : Bool) → (elim b as (λ _. Option (Runner Input)) [ true ↦ pools line.text | false ↦ None ]) ≡ None
+    by_ended : (b : Bool) → cond b (pools line.text) None ≡ None
     by_ended true = long-text line.text (let n = over-long line over in omega arith)
     by_ended false = refl
 
@@ -84,12 +86,12 @@ no-header line over = by_ended line.ended
 pub host-begins : pool_runner ≡ runner_of input_of misfit (host_standing (begin 1))
 host-begins = λ i. runner_by (λ is. story-items 1 is (omega arith) i) (λ is. sym (story-strays 1 is (omega arith)) i)
 
+taken-so : (text : List ℕ) (rest : List Line) → pools text ≡ Some pool_runner → replayed_all (ended_line text ∷ rest) ≡ with_front header (replayed_lines pool_runner 2 rest)
+unfolding judged_lines transcript_lines replayed_lines
+taken-so text rest e = rw e refl
+
 pub header-taken : (text : List ℕ) (rest : List Line) → pools text ≡ Some pool_runner → replayed_all (ended_line text ∷ rest) ≡ with_front header (replayed_lines (runner_of input_of misfit (host_standing (begin 1))) 2 rest)
-header-taken text rest e = taken ∙ ap (λ (r : Runner Input). with_front header (replayed_lines r 2 rest)) host-begins
-  where
-    taken : replayed_all (ended_line text ∷ rest) ≡ with_front header (replayed_lines pool_runner 2 rest)
-    unfolding judged_lines transcript_lines replayed_lines
-    taken = rw e refl
+header-taken text rest e = taken-so text rest e ∙ ap (λ (r : Runner Input). with_front header (replayed_lines r 2 rest)) host-begins
 
 -- ---- it is refused
 
@@ -134,7 +136,7 @@ host-text None is = ([], refl)
 first-text : (line : Line) (is : List Input) → (text : List ℕ) × (transcript_by pools (runner_after pools line) is ≡ Some text)
 first-text line is = by_ended line.ended
   where
-    by_ended : (b : Bool) → (text : List ℕ) × (transcript_by pools (elim b as (λ _. Option (Runner Input)) [ true ↦ pools line.text | false ↦ None ]) is ≡ Some text)
+    by_ended : (b : Bool) → (text : List ℕ) × (transcript_by pools (cond b (pools line.text) None) is ≡ Some text)
     by_ended true = host-text (mode_of line.text) is
     by_ended false = ([], refl)
 

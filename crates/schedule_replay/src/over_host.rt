@@ -4,9 +4,10 @@ ghost use Rattle.tree_specs.specs.declared.question.Ask.TheVariants.{Quiet};
 ghost use Rattle.tree_specs.specs.Machine.View.{question_of};
 ghost use Rattle.tree_specs.specs.Texts.Grammar.{input_of};
 ghost use Rattle.tree_specs.specs.Texts.Schedule.{misfit};
-ghost use Rattle.tree_specs.specs.Texts.Text.{event_text};
+ghost use Rattle.tree_specs.specs.Texts.Text.{event_text, reply_text};
 ghost use Rattle.tree_specs.specs.Words.Ranges.{is_sound, is_sound_call};
 ghost use Rattle.schedule_replay.specs.Hosts.{host_standing, CallsAtOnce};
+ghost use Rattle.schedule_replay.specs.Standings.{Waits};
 
 use crate::machine::Machine;
 use host_core::{Host, OfferFault};
@@ -33,6 +34,7 @@ fn append_reply(reply: Reply, text: &mut Vec<u8>) -> Result<(), Memory>
 /// memory runs out, nothing was appended.
 #[inline(always)]
 fn do_call(host: &mut Host, call: Call, text: &mut Vec<u8>) -> Result<(), Memory>
+    requires waits { Waits (host_standing host.old) }
     requires asked { question_of host.old ≡ Some Quiet }
     requires sound { IsTrue (is_sound_call call) }
     ensures ok { OnOk result (CallsAtOnce host.old call text.old.items host.new text.new.items) }

@@ -32,7 +32,6 @@ fn put_text<K: Sink>(stage: &mut Stage, out: &mut K) -> Result<(), PutError>
 /// Takes the next bytes, and writes what comes of them, before an error too.
 fn take_piece<K: Sink>(reader: &mut LineReader<Stage>, piece: &[u8], out: &mut K) -> Result<(), Stop>
     requires ready { IsBetweenBytes ready (reading_of reader.old) }
-    requires empty { text_in reader.old.taker ≡ [] }
     ensures passed { PassesPiece (reading_of reader.old) piece.now (reading_of reader.new) (K.held out.old) (K.held out.new) result }
     ensures ready { OnOk result (IsBetweenBytes ready (reading_of reader.new)) }
     ensures empty { OnOk result (text_in reader.new.taker ≡ []) }
@@ -48,7 +47,6 @@ fn take_piece<K: Sink>(reader: &mut LineReader<Stage>, piece: &[u8], out: &mut K
 /// Takes the end of the schedule, and writes what comes of it, before an error too.
 fn take_end<K: Sink>(reader: &mut LineReader<Stage>, out: &mut K) -> Result<(), Stop>
     requires ready { IsBetweenBytes ready (reading_of reader.old) }
-    requires empty { text_in reader.old.taker ≡ [] }
     ensures passed { PassesEnd (reading_of reader.old) (K.held out.old) (K.held out.new) result }
     ensures cause { Counts (K.faults out.old) (K.faults out.new) (result ≡ Err Stop.Write) }
 {
