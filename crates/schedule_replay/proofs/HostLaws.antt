@@ -1,5 +1,5 @@
 -- A host as whoever runs lines by it sees it.
-use Rattle.std.proofs.Common.{◌≡◌, ℕ, ◌<◌, true, false, List, [], ◌∷◌, ◌++◌, length, Option, Some, None, refl, sym, ap, subst, ◌∙◌, arith}
+use Rattle.std.proofs.Common.{◌≡◌, ℕ, ◌<◌, true, false, List, [], ◌∷◌, ◌++◌, length, Option, Some, None, Result, Ok, Err, OnOk, refl, sym, ap, subst, ◌∙◌, arith}
 use Rattle.std.proofs.lemmas.List.{append-nil}
 use Rattle.tree_specs.specs.declared.call.Call.{Call}
 use Rattle.tree_specs.specs.declared.event.Event.{Event}
@@ -17,13 +17,14 @@ use Rattle.tree_specs.specs.Machine.View.{View, rest_of, strays_of, question_of}
 use Rattle.tree_specs.specs.Texts.Runners.{unless_stray}
 use Rattle.tree_specs.specs.Texts.Schedule.{misfit, open_question}
 use Rattle.tree_specs.specs.Texts.Text.{event_text, answered_text, reply_text, item_text, end_text, body_text}
+use Rattle.host_core.specs.declared.fault.OfferFault.{OfferFault}
 use Rattle.host_core.specs.Promises as promises
 use Rattle.host_core.proofs.Reaching.{no-reason}
 use Rattle.host_core.proofs.Straying.{taken-fits}
 use Rattle.schedule_replay.specs.Hosts.{host_standing, CallsAtOnce}
 use Rattle.schedule_replay.specs.Questions.{answered_of}
 use Rattle.schedule_replay.specs.Replays.{behind}
-use Rattle.schedule_replay.specs.Standings.{Waits, Follows, once, unfit, TakesInput}
+use Rattle.schedule_replay.specs.Standings.{Waits, Follows, once, unfit, TakesInput, Nexts}
 use Rattle.schedule_replay.proofs.RunLaws.{follows-none, follows-then}
 use Rattle.schedule_replay.proofs.Unanswered.{unanswered}
 
@@ -60,17 +61,17 @@ last-text q = refl
 pub host_waits : (v : View) → promises.Waits v → Waits (host_standing v)
 host_waits v w = record { question = w.question; asked_now = w.open_now; open_now = ap open_question w.last ∙ last-question w.question; last = ap body_text w.last ∙ last-text w.question }
 
-pub next-told : (v w : View) (e : Event) → promises.NextLaw (Some e) v w → Follows (event_text e) (host_standing v) (host_standing w)
+next-told : (v w : View) (e : Event) → promises.NextLaw (Some e) v w → Follows (event_text e) (host_standing v) (host_standing w)
 next-told v w e h = record {
   tells = λ is. ap body_text (h.1 is) ∙ told-first e (rest_of w is);
   open_after = λ is. ap open_question (h.1 is) ∙ question-told e (rest_of w is);
   strays = h.2;
 }
 
-pub next-less : (v w : View) (e : Event) → promises.NextLaw (Some e) v w → length (rest_of w []) < length (rest_of v [])
+next-less : (v w : View) (e : Event) → promises.NextLaw (Some e) v w → length (rest_of w []) < length (rest_of v [])
 next-less v w e h = let n = ap length (h.1 []) in omega (arith, n)
 
-pub next-none : (v w : View) → promises.NextLaw None v w → Follows [] (host_standing v) (host_standing w) × Waits (host_standing w)
+next-none : (v w : View) → promises.NextLaw None v w → Follows [] (host_standing v) (host_standing w) × Waits (host_standing w)
 next-none v w h = subst (λ (u : View). Follows [] (host_standing v) (host_standing u) × Waits (host_standing u)) (sym h.1) (follows-none (host_standing v), host_waits v h.0)
 
 -- ---- an answer that was taken
@@ -100,7 +101,7 @@ follows-answer v w i taken = record {
   strays = taken.strays;
 }
 
-pub takes-input : (v w : View) (i : Input) → Waits (host_standing v) → promises.TakesAnswer v i w → TakesInput misfit (host_standing v) i (host_standing w)
+takes-input : (v w : View) (i : Input) → Waits (host_standing v) → promises.TakesAnswer v i w → TakesInput misfit (host_standing v) i (host_standing w)
 takes-input v w i ready taken = record { fits = fits-now v w i ready taken; follows = follows-answer v w i taken }
 
 -- ---- a call of the host's own caller
@@ -127,3 +128,13 @@ calls-replied v w c r before after ready quiet h e = record {
   fits = fits-now v h.between (input.Call c) ready h.taken;
   follows = follows-then [] (event_text (Replied r)) (once (input.Call c) (host_standing v)) (host_standing h.between) (host_standing w) (follows-call v h.between c quiet h.taken) (next-told h.between w (Replied r) h.told);
 }
+
+-- ---- each answer of a host
+
+pub host_next : (o : Option Event) (v w : View) → promises.NextLaw o v w → Nexts event_text (Ok o) (host_standing v) (host_standing w)
+host_next None v w h = next-none v w h
+host_next (Some e) v w h = (next-told v w e h, next-less v w e h)
+
+pub host_takes : (r : Result (Unit {0}) OfferFault) (v w : View) (i : Input) → Waits (host_standing v) → OnOk r (promises.TakesAnswer v i w) → OnOk r (TakesInput misfit (host_standing v) i (host_standing w))
+host_takes (Ok done) v w i ready h = takes-input v w i ready h
+host_takes (Err e) v w i ready h = tt

@@ -73,17 +73,16 @@ module _ {J : Type 0} where
 
   -- ---- the input of a line
 
+  line-within : (r : Runner J) (c : Course J) (n : ℕ) (text : List ℕ) → length text ≤ line_limit → n ≤ lines_limit → line_input r n c (ended_line text) ≡ fitting r c (r.reads text)
+  unfolding line_input
+  line-within r c n text short low = rw (not-over n (ended_line text) low short) refl
+
+  pub input-by : (r : Runner J) (c : Course J) (n : ℕ) (text : List ℕ) (j : J) (o : Option Reason) → length text ≤ line_limit → n ≤ lines_limit → r.reads text ≡ Some j → why_not r c j ≡ o → line_input r n c (ended_line text) ≡ ok_unless j o
+  input-by r c n text j o short low e f = line-within r c n text short low ∙ ap (fitting r c) e ∙ ap (ok_unless j) f
+
   module _ (reads : List ℕ → Option J) (misfit : Option Ask → J → Option Reason) where
-    line-within : (s : Standing J) (n : ℕ) (text : List ℕ) → length text ≤ line_limit → n ≤ lines_limit → line_input (runner_of reads misfit s) n s.course (ended_line text) ≡ fitting (runner_of reads misfit s) s.course (reads text)
-    unfolding line_input
-    line-within s n text short low = rw (not-over n (ended_line text) low short) refl
-
-    input-by : (s : Standing J) (n : ℕ) (text : List ℕ) (j : J) (o : Option Reason) → length text ≤ line_limit → n ≤ lines_limit → reads text ≡ Some j → unfit misfit s j ≡ o
-        → line_input (runner_of reads misfit s) n s.course (ended_line text) ≡ ok_unless j o
-    input-by s n text j o short low e f = line-within s n text short low ∙ ap (fitting (runner_of reads misfit s) s.course) e ∙ ap (ok_unless j) f
-
     pub no-input : (s : Standing J) (n : ℕ) (text : List ℕ) → length text ≤ line_limit → n ≤ lines_limit → reads text ≡ None → line_input (runner_of reads misfit s) n s.course (ended_line text) ≡ Err Form
-    no-input s n text short low e = line-within s n text short low ∙ ap (fitting (runner_of reads misfit s) s.course) e
+    no-input s n text short low e = line-within (runner_of reads misfit s) s.course n text short low ∙ ap (fitting (runner_of reads misfit s) s.course) e
 
     pub cut-input : (s : Standing J) (n : ℕ) (text : List ℕ) → length text ≤ line_limit → n ≤ lines_limit → line_input (runner_of reads misfit s) n s.course (record { text = text; ended = false }) ≡ Err Form
     unfolding line_input
@@ -114,7 +113,7 @@ module _ {J : Type 0} where
         → replayed_lines (runner_of reads misfit s) n (ended_line text ∷ rest) ≡ with_front w (replayed_lines (runner_of reads misfit t) (n + 1) rest)
     unfolding replayed_lines
     accepts w s t n text j rest short low e fits f =
-        let one = judged-ok s n (ended_line text) rest j (input-by s n text j None short low e fits) in
+        let one = judged-ok s n (ended_line text) rest j (input-by (runner_of reads misfit s) s.course n text j None short low e fits) in
         let two = ap (λ (c : Course J). judged_from (runner_of reads misfit s) c (n + 1) rest) (course-after w s t j f) ∙ judged-alike s t t.course (n + 1) rest in
         let js : List J = (judged_from (runner_of reads misfit t) t.course (n + 1) rest).inputs in
         rw (one, two, f.tells js) refl
@@ -133,7 +132,7 @@ module _ {J : Type 0} where
         → ((js : List J) → BeginsText front (s.tells (j ∷ js))) → BeginsText front (replayed_lines (runner_of reads misfit s) n (ended_line text ∷ rest)).text
     unfolding replayed_lines
     begins-accepted front s n text j rest short low e fits begins =
-        let one = judged-ok s n (ended_line text) rest j (input-by s n text j None short low e fits) in
+        let one = judged-ok s n (ended_line text) rest j (input-by (runner_of reads misfit s) s.course n text j None short low e fits) in
         let js : List J = (judged_from (runner_of reads misfit s) (once_given j s.course) (n + 1) rest).inputs in
         rw one (begins js)
 
@@ -153,7 +152,7 @@ module _ {J : Type 0} where
 
     pub misfits : (s : Standing J) (w : Waits s) (n : ℕ) (text : List ℕ) (j : J) (rest : List Line) (why : Reason) → length text ≤ line_limit → n ≤ lines_limit → reads text ≡ Some j → unfit misfit s j ≡ Some why
         → replayed_lines (runner_of reads misfit s) n (ended_line text ∷ rest) ≡ record { text = Some (end_text w.question); refused = Some (n, why) }
-    misfits s w n text j rest why short low e f = refuses s w n (ended_line text) rest why (input-by s n text j (Some why) short low e f)
+    misfits s w n text j rest why short low e f = refuses s w n (ended_line text) rest why (input-by (runner_of reads misfit s) s.course n text j (Some why) short low e f)
 
     -- no line is left
     pub no-more : (s : Standing J) (w : Waits s) (n : ℕ) → replayed_lines (runner_of reads misfit s) n [] ≡ record { text = Some (end_text w.question); refused = None }
