@@ -16,6 +16,7 @@ fn write_report(report: &ReportRows, out: &mut Vec<u8>) -> Result<(), Memory>
 }
 
 /// Appends the line of a refusal.
+#[tactic(auto, unfolding(tree_specs::specs::Texts::Text::reply_text))]
 fn write_no(why: Refusal, out: &mut Vec<u8>) -> Result<(), Memory>
     ensures { Writes out.old.items out.new.items result (reply_text (replies.No why)) }
 {
