@@ -5,9 +5,9 @@ ghost use Rattle.line_pieces.specs.Takings.{TakesLine, RefusesLimit, WantsMemory
 
 /// What takes the lines of a text, one after another.
 ///
-/// What it finds of a whole text is said as a value of its own kind, `Found`. Each method says of the state before it what
-/// is found where some lines still come, and how this follows from the state after it. So whoever cuts a text into
-/// lines knows what is found of all its bytes.
+/// What it finds of a whole text is said as a value of its own kind, `Found`. Each method says of the state before it
+/// what is found where some lines still come, and how this follows from the state after it. So whoever cuts a text
+/// into lines knows what is found of all its bytes.
 pub trait TakesLines: Drop {
     /// Why it ends before its text does.
     type Stop: Drop;

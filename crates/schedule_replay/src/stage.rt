@@ -10,6 +10,7 @@ use host_core::Host;
 use line_pieces::TakesLines;
 use schedule_text::read_header;
 use std::alloc::Global;
+use std::mem;
 use tree_specs::{Mode, Reason};
 
 /// Whether hosts run the lines after this first one.
@@ -68,11 +69,11 @@ impl Stage {
         }
     }
 
-    /// A host runs the next lines.
+    /// A host runs the next lines. What stood here was the first line still to come, which owns nothing.
     fn start(&mut self, play: Play<Host>)
         ensures { self.new ≡ Stage.Pool play }
     {
-        *self = Stage::Pool(play);
+        mem::forget(mem::replace(self, Stage::Pool(play)));
     }
 
     /// Takes the first line.
