@@ -135,6 +135,9 @@ pub host_next : (o : Option Event) (v w : View) → promises.NextLaw o v w → N
 host_next None v w h = next-none v w h
 host_next (Some e) v w h = (next-told v w e h, next-less v w e h)
 
+pub on-ok : {E A B : Type 0} (r : Result (Unit {0}) E) → (A → B) → OnOk r A → OnOk r B
+on-ok (Ok done) f h = f h
+on-ok (Err e) f h = tt
+
 pub host_takes : (r : Result (Unit {0}) OfferFault) (v w : View) (i : Input) → Waits (host_standing v) → OnOk r (promises.TakesAnswer v i w) → OnOk r (TakesInput misfit (host_standing v) i (host_standing w))
-host_takes (Ok done) v w i ready h = takes-input v w i ready h
-host_takes (Err e) v w i ready h = tt
+host_takes r v w i ready h = on-ok r (takes-input v w i ready) h

@@ -1,5 +1,5 @@
 -- Replaying what a source gives, piece by piece.
-use Rattle.std.proofs.Common.{◌≡◌, ◌≢◌, ℕ, true, false, List, [], ◌∷◌, ◌++◌, take, Option, Some, None, Result, Ok, Err, refl, sym, ap, subst, ◌∙◌, append_assoc, arith}
+use Rattle.std.proofs.Common.{◌≡◌, ◌≤◌, ℕ, true, false, List, [], ◌∷◌, ◌++◌, take, Option, Some, None, Result, Ok, Err, refl, sym, ap, subst, ◌∙◌, append_assoc, arith}
 use Rattle.std.specs.Prelude.{IfSome}
 use Rattle.std.specs.Io.KnownBytes.{Appends, Consumes, IsAtEnd, Keeps}
 use Rattle.std.proofs.KnownBytes.{Consumes-nil, Appends-nil, Appends-trans, Consumes-trans, Consumes-kept}
@@ -13,6 +13,7 @@ use Rattle.tree_specs.specs.Texts.Schedule.{misfit}
 use Rattle.tree_specs.specs.Texts.Text.{end_text}
 use Rattle.outside.specs.declared.output.PutError.{PutError}
 use Rattle.outside.specs.declared.output.PutError.TheVariants as put_errors
+use Rattle.outside.specs.Causes.{Counts}
 use Rattle.outside.specs.Outputs.{PutsFront}
 use Rattle.line_pieces.specs.Readings.{Reading, from_line, found_now, Advances, Takes, IsBetweenBytes}
 use Rattle.line_pieces.specs.Takings.{EndsWith}
@@ -65,12 +66,22 @@ put-begins : (e : PutError) (text : List ℕ) (found : Replayed) → BeginsText 
 put-begins put_errors.Write text found h = h
 put-begins put_errors.Memory text found h = h
 
+abbrev FailsBy : Stop → Stop → Type 0
+FailsBy e f = (let r : Result (Unit {0}) Stop = Err e in r ≡ Err f)
+
 -- no line makes a put fail
-pub not-put : (e : Stop) (text : List ℕ) (found : Replayed) → StopsWith e text found → e ≢ errors.Write
-not-put errors.Write text found h = absurd h
-not-put errors.Read text found h = absurd h
-not-put (errors.Refused line reason) text found h = λ e. absurd cc
-not-put errors.Memory text found h = λ e. absurd cc
+pub no-put : (e : Stop) (text : List ℕ) (found : Replayed) (before now : ℕ) → StopsWith e text found → before ≤ now → Counts before now (FailsBy e errors.Write)
+no-put errors.Write text found before now h le = absurd h
+no-put errors.Read text found before now h le = absurd h
+no-put (errors.Refused line reason) text found before now h le = record { later = le; counted = λ e. absurd cc }
+no-put errors.Memory text found before now h le = record { later = le; counted = λ e. absurd cc }
+
+-- nor a read, and no put does
+pub no-read : (e : Stop) (text : List ℕ) (found : Replayed) (before now : ℕ) → StopsPut e text found → before ≤ now → Counts before now (FailsBy e errors.Read)
+no-read errors.Read text found before now h le = absurd h
+no-read errors.Write text found before now h le = record { later = le; counted = λ e. absurd cc }
+no-read (errors.Refused line reason) text found before now h le = record { later = le; counted = λ e. absurd cc }
+no-read errors.Memory text found before now h le = record { later = le; counted = λ e. absurd cc }
 
 -- the answer to a piece
 pub passes-put : (s u : Reading Stage) (w : Stage) (piece : List ℕ) (held now : Option (List ℕ)) → Appends held now (text_in u.taker) → IsEmptied u.taker w → Advances comes s piece u → PassesPiece s piece (staged u w) held now (Ok tt)

@@ -1,7 +1,7 @@
 -- A whole replay, in the words of schedules and transcripts: their first line says what runs the others.
 use Rattle.std.proofs.Common.{◌≡◌, ℕ, ◌+◌, ◌<◌, ◌≤◌, Bool, true, false, cond, ltb, ◌||◌, ◌⊎◌, inl, inr, List, [], ◌∷◌, ◌++◌, length, Option, Some, None, Result, Ok, Err, refl, sym, ap, subst, ◌∙◌, arith}
 use Rattle.std.specs.Io.KnownBytes.{Appends, IsAtEnd}
-use Rattle.std.specs.Prelude.{IfSome, is_some}
+use Rattle.std.specs.Prelude.{IfSome, is_some, not}
 use Rattle.std.specs.Str.{bytes_eq}
 use Rattle.std.proofs.KnownBytes.{Appends-nil}
 use Rattle.std.proofs.lemmas.Bool.Decides.{nat_tests}
@@ -46,6 +46,10 @@ runs-or-none line = by_ended line.ended
     by_ended : (b : Bool) → (cond b (pools line.text) None ≡ None) ⊎ (cond b (pools line.text) None ≡ Some pool_runner)
     by_ended true = hosts-or-none (mode_of line.text)
     by_ended false = inl refl
+
+pub not_false : (b : Bool) → not b ≡ false → b ≡ true
+not_false true h = refl
+not_false false h = absurd cc
 
 pub pools-run : (text : List ℕ) → is_some (pools text) ≡ true → pools text ≡ Some pool_runner
 pools-run text e = elim (hosts-or-none (mode_of text)) [ inl none ↦ (let f : false ≡ true = sym (ap is_some none) ∙ e in absurd cc) | inr some ↦ some ]

@@ -1,10 +1,5 @@
 use Rattle.std.proofs.lemmas.Result.{err_from_is_err_and}
 use Rattle.schedule_replay.proofs.RunLaws.{told-front}
-use Rattle.schedule_replay.proofs.HostLaws as hostlaws
-use Rattle.schedule_replay.proofs.WholeLaws as wholelaws
-use Rattle.schedule_replay.proofs.StageLaws as stagelaws
-use Rattle.schedule_replay.proofs.SessionLaws as sessionlaws
-use Rattle.schedule_replay.proofs.StoryLaws as storylaws
 use Rattle.schedule_replay.proofs.telling.tell.Goals as goal
 
 pub returns-in_err-write : goal.returns-in_err-write
