@@ -90,7 +90,7 @@ module _ {J : Type 0} (reads : List ℕ → Option J) (misfit : Option Ask → J
         let r : Replayed = replayed_lines (runner_of reads misfit s) n (ended_line text ∷ rest) in
         let front : List ℕ = a.written ++ told.written in
         let begins : BeginsText front r.text =
-            begins-accepted reads misfit front s n text j rest short low spelled a.fits (λ js. rw (a.follows.tells js) (begins_behind a.written told.written (t.tells js) (told.begins js))) in
+        begins-accepted reads misfit front s n text j rest short low spelled a.fits (λ js. rw (a.follows.tells js) (begins_behind a.written told.written (t.tells js) (told.begins js))) in
         let same : before ++ front ≡ after = sym (told.text ∙ ap (λ (l : List ℕ). l ++ told.written) a.text ∙ append_assoc before a.written told.written) in
         subst (λ (l : List ℕ). BeginsText l (behind before r.text)) same (begins_behind before front r.text begins)
 

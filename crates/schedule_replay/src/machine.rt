@@ -70,7 +70,11 @@ pub trait Machine: Drop {
     /// Takes what answers the open question, where this costs less than an offer, and appends what comes of it at once:
     /// the question's line, and the first of what is told. Gives it back where it doesn't, and then nothing has changed.
     /// When memory runs out, nothing was appended.
-    fn take_at_once(&mut self, given: Self::Given, text: &mut Vec<u8>) -> Result<Option<Self::Given>, Memory>
+    fn take_at_once(
+        &mut self,
+        given: Self::Given,
+        text: &mut Vec<u8>,
+    ) -> Result<Option<Self::Given>, Memory>
         requires waits { Waits (standing self.old) }
         requires sound { IsTrue (is_sound given) }
         ensures ok { IfOk result (λ left. TriesInput misfit (standing self.old) given text.old.items left (standing self.new) text.new.items) }

@@ -48,6 +48,7 @@ fn do_call(host: &mut Host, call: Call, text: &mut Vec<u8>) -> Result<(), Memory
 
 impl Machine for Host {
     type Given = Input;
+
     type Told = Event;
 
     ghost reads = { input_of };

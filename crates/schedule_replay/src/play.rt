@@ -126,7 +126,6 @@ impl<M: Machine> Play<M> {
     }
 
     /// Takes the line with this number, without its LF.
-    #[inline(always)]
     pub fn take_line(&mut self, number: u64, line: &[u8]) -> Result<(), Stop>
         requires ready { Waits (M.standing self.old.machine) }
         requires last { number ≤ lines_limit }

@@ -30,7 +30,11 @@ fn put_text<K: Sink>(stage: &mut Stage, out: &mut K) -> Result<(), PutError>
 }
 
 /// Takes the next bytes, and writes what comes of them, before an error too.
-fn take_piece<K: Sink>(reader: &mut LineReader<Stage>, piece: &[u8], out: &mut K) -> Result<(), Stop>
+fn take_piece<K: Sink>(
+    reader: &mut LineReader<Stage>,
+    piece: &[u8],
+    out: &mut K,
+) -> Result<(), Stop>
     requires ready { IsBetweenBytes ready (reading_of reader.old) }
     ensures passed { PassesPiece (reading_of reader.old) piece.now (reading_of reader.new) (K.held out.old) (K.held out.new) result }
     ensures ready { OnOk result (IsBetweenBytes ready (reading_of reader.new)) }
@@ -57,7 +61,11 @@ fn take_end<K: Sink>(reader: &mut LineReader<Stage>, out: &mut K) -> Result<(), 
 }
 
 /// Reads a schedule to its end, from its first byte on, and writes its transcript.
-fn pass<S: Source, K: Sink>(reader: &mut LineReader<Stage>, input: &mut S, out: &mut K) -> Result<(), Stop>
+fn pass<S: Source, K: Sink>(
+    reader: &mut LineReader<Stage>,
+    input: &mut S,
+    out: &mut K,
+) -> Result<(), Stop>
     requires fresh { IsFresh (reading_of reader.old) }
     requires ready { IsBetweenBytes ready (reading_of reader.old) }
     ensures replays { IfSome (S.left input.old) (λ bytes. Replays bytes (S.left input.new) (K.held out.old) (K.held out.new) (ran_of result)) }

@@ -115,7 +115,10 @@ impl TakesLines for Stage {
 
     fn refuse_limit(&mut self, number: u64) -> Stop {
         match self {
-            Stage::Header(_alloc) => Stop::Refused { line: number, reason: Reason::Limit },
+            Stage::Header(_alloc) => Stop::Refused {
+                line: number,
+                reason: Reason::Limit,
+            },
             Stage::Pool(play) => play.refuse_limit(number),
         }
     }
@@ -126,7 +129,10 @@ impl TakesLines for Stage {
 
     fn finish(&mut self, number: u64, cut: bool) -> Result<(), Stop> {
         match self {
-            Stage::Header(_alloc) => Err(Stop::Refused { line: number, reason: Reason::Form }),
+            Stage::Header(_alloc) => Err(Stop::Refused {
+                line: number,
+                reason: Reason::Form,
+            }),
             Stage::Pool(play) => play.finish(number, cut),
         }
     }
