@@ -1,1 +1,4 @@
 pub mod OutputLaws
+pub mod NoteLaws
+pub mod LinkLaws
+pub mod ClockLaws
