@@ -1,8 +1,8 @@
 -- One time more is told.
-use Rattle.std.proofs.Common.{◌≡◌, ◌-◌, ◌^◌, ◌++◌, ℕ, suc, Bool, true, false, List, [], ◌∷◌, nat_lt, Option, Some, None, refl, arith}
+use Rattle.std.proofs.Common.{◌≡◌, ◌-◌, ◌^◌, ◌++◌, ℕ, suc, Bool, true, false, List, [], ◌∷◌, nat_lt, refl, arith}
 use Rattle.std.proofs.lemmas.Bool.Decides.{nat_tests}
 use Rattle.outside.specs.Causes.{count_up}
-use Rattle.outside.specs.Clocks.{PreparedTimes, time_after, first_times, told_times}
+use Rattle.outside.specs.Clocks.{time_after, first_times, told_times}
 use Rattle.outside.specs.Tellings.{Tells}
 
 counts_on : (n : ℕ) → nat_lt n (2 ^ 64 - 1) ≡ true → count_up n ≡ suc n

@@ -1,5 +1,5 @@
 -- Links in memory: what is told of each call, which answers fit, and what is open.
-use Rattle.std.proofs.Common.{◌≡◌, ◌==◌, ℕ, Bool, true, false, not, ◌&&◌, List, [], ◌∷◌, ◌++◌, length, filter, nat_le, Option, Some, None, refl, sym, arith}
+use Rattle.std.proofs.Common.{◌≡◌, ◌==◌, ℕ, Bool, true, false, not, ◌&&◌, List, [], ◌∷◌, length, filter, nat_le, Option, Some, None, refl, sym, arith}
 use Rattle.std.proofs.lemmas.List.{append-nil}
 use Rattle.std.proofs.lemmas.Bool.Decides.{nat_tests}
 use Rattle.tree_specs.specs.declared.question.Input.{Input}
@@ -7,8 +7,8 @@ use Rattle.tree_specs.specs.declared.question.Input.TheVariants as inputs
 use Rattle.outside.specs.Tellings.{Tells}
 use Rattle.outside.specs.Descriptors.{is_among}
 use Rattle.outside.specs.LinkCalls.{LinkCall}
-use Rattle.outside.specs.Notes.{Noted, told_with, noted_with, noted_after, written_by}
-use Rattle.outside.specs.Scripts.{fits_accept, fits_read, fits_write, given}
+use Rattle.outside.specs.Notes.{Noted, told_with, noted_with, written_by}
+use Rattle.outside.specs.Scripts.{fits_read, fits_write, given}
 
 -- ---- what is told
 

@@ -1,9 +1,8 @@
 -- One call more is noted.
-use Rattle.std.proofs.Common.{◌≡◌, ◌+◌, ◌-◌, ◌&&◌, ℕ, Bool, true, false, List, [], ◌∷◌, ◌++◌, length, take, drop, nat_le, Option, Some, None, if◌then◌else◌, refl, sym, ap, arith}
+use Rattle.std.proofs.Common.{◌≡◌, ◌+◌, ◌-◌, ◌&&◌, ℕ, Bool, true, false, List, [], ◌∷◌, ◌++◌, length, take, drop, nat_le, Some, None, if◌then◌else◌, refl, ap, arith}
 use Rattle.std.proofs.lemmas.List.{take-append-le, drop-append-le, take_all, length-drop, length-append}
 use Rattle.outside.specs.declared.notes.Note.{Note}
 use Rattle.outside.specs.declared.notes.Note.TheVariants as notes
-use Rattle.outside.specs.LinkCalls.{LinkCall}
 use Rattle.outside.specs.Notes.{Noted, told_with, noted_with, written_by, bytes_of, call_of, bytes_in, calls_in}
 
 -- ---- what is kept

@@ -1,5 +1,7 @@
 -- What contracts see of the ends in memory.
 use Rattle.std.specs.Prelude.{ℕ, List, [], Some}
+use Rattle.tree_specs.specs.declared.moment.Moment.{Moment}
+use Rattle.tree_specs.specs.declared.question.Act.{Act}
 use Rattle.tree_specs.specs.declared.question.Input.{Input}
 use Rattle.outside.specs.Notes.{Noted}
 use Rattle.outside.specs.Pacings.{Pacing, new_pacing}
@@ -37,3 +39,8 @@ new_link answers fails calls written = record {
   fds = [];
   noted = record { told = Some []; calls_left = calls; bytes_left = written };
 }
+
+-- routines in memory: the acts that are left, and the moments at which acts were given
+pub record PreparedActs : Type 0 where
+  pub acts : List Act
+  pub told : List (Moment × Act)

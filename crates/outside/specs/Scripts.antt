@@ -1,5 +1,5 @@
 -- Which of the prepared answers a call of a link in memory gives.
-use Rattle.std.specs.Prelude.{◌≡◌, ◌≤◌, ℕ, Bool, true, false, not, ◌&&◌, nat_le, List, [], length, drop, slice_get, Option, Some, None, Result, Ok, Err, if◌then◌else◌, ⊤}
+use Rattle.std.specs.Prelude.{◌≡◌, ◌≤◌, ℕ, Bool, true, false, not, ◌&&◌, nat_le, List, [], length, drop, slice_get, Option, Some, None, Result, Ok, Err, ⊤}
 use Rattle.std.specs.List.{list_all}
 use Rattle.tree_specs.specs.declared.memory.Memory.{Memory}
 use Rattle.tree_specs.specs.declared.wants.Want.{Want}

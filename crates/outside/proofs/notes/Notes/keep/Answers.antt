@@ -1,5 +1,4 @@
 use Rattle.std.proofs.Common.{◌-◌, ap, sym, length, arith}
-use Rattle.outside.specs.Notes.{Noted}
 use Rattle.outside.proofs.NoteLaws.{keeps_bytes, tells_one_more}
 use Rattle.outside.proofs.notes.Notes.keep.Goals as goal
 
