@@ -1,5 +1,5 @@
 -- What is ready of what is wanted, and which descriptors are open after one was closed.
-use Rattle.std.proofs.Common.{◌≡◌, ◌==◌, ◌≤◌, ◌-◌, ◌∙◌, ℕ, Bool, not, ◌&&◌, nat_le, None, is_some, ap, arith}
+use Rattle.std.proofs.Common.{◌≡◌, ◌==◌, ◌≤◌, ◌-◌, ◌∙◌, ℕ, not, ◌&&◌, nat_le, None, is_some, ap, arith}
 use Rattle.std.specs.Prelude.{bit_and}
 use Rattle.std.specs.Int.Bits.{and_self}
 use Rattle.std.proofs.lemmas.Nat.{and_comm, and_assoc}

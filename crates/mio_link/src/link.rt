@@ -1,8 +1,9 @@
 //! The link: its listener, its connections, and what each of them is ready for.
-ghost use Rattle.std.specs.Prelude.{◌≡◌, ◌<◌, ℕ, [], ◌∷◌, length, None, false, true, OnErr};
+ghost use Rattle.std.specs.Prelude.{◌≡◌, ◌<◌, ℕ, [], ◌∷◌, length, None, false, true, IfOk, IfSome, OnErr};
+ghost use Rattle.tree_specs.specs.Words.Wants.{is_want};
 ghost use Rattle.outside.specs.Causes.{HasCause};
 ghost use Rattle.outside.specs.Descriptors.{SameOpen, Closes};
-ghost use Rattle.outside.specs.Links.{AreReady, AcceptsOpen, ReadsWithin, WritesWithin, has_failed};
+ghost use Rattle.outside.specs.Links.{AreReady, AcceptsOpen, ReadsWithin, WritesWithin, has_failed, is_wanted};
 ghost use Rattle.outside.specs.LinkCalls.{listen_calls, wait_calls, accept_calls, read_input, write_input};
 ghost use Rattle.outside.specs.LinkCalls.LinkCall.{Read, Write, Close};
 ghost use Rattle.outside.specs.Tellings.{Tells};
@@ -17,6 +18,8 @@ use outside::{Accepted, Done, Link, LinkRead, LinkWrote};
 use slab::Slab;
 use std::alloc::Global;
 use std::fs::Files;
+use std::io;
+use std::io::ErrorKind;
 use std::net::Net;
 use tree_specs::{Memory, Want};
 
@@ -68,15 +71,31 @@ impl<R: Files + Net + Clone + Drop> MioLink<R> {
         Done::Failed
     }
 
-    /// Waits for anything to come, at most `limit` microseconds, and notes it. Answers whether the system let it.
-    fn poll(&mut self, limit: u64) -> bool
+    /// Waits for anything to come, at most `limit` microseconds, and notes it.
+    fn poll(&mut self, limit: u64) -> io::Result<()>
         ensures faults { link_faults self.new ≡ link_faults self.old }
         ensures open { SameOpen (has_open self.old) (has_open self.new) }
     {
         match &mut self.polling {
             Some(polling) => poll_for(polling, &mut self.standing, limit),
-            None => false,
+            None => Err(io::Error::from(ErrorKind::NotConnected)),
         }
+    }
+
+    /// The first descriptor that is ready for something that is wanted of it. It waits where there is none.
+    fn find_ready(&mut self, wants: &[Want], limit: u64) -> io::Result<Option<Want>>
+        ensures whole { IfOk result (λ found. IfSome found (λ ready. is_want ready ≡ true)) }
+        ensures wanted { IfOk result (λ found. IfSome found (λ ready. is_wanted wants.now ready ≡ true)) }
+        ensures faults { link_faults self.new ≡ link_faults self.old }
+        ensures open { SameOpen (has_open self.old) (has_open self.new) }
+    {
+        self.poll(0)?;
+        let first = first_ready(wants, &self.standing);
+        if first.is_some() || limit == 0 {
+            return Ok(first);
+        }
+        self.poll(limit)?;
+        Ok(first_ready(wants, &self.standing))
     }
 
     /// Connects the first who waits. Where it doesn't listen, nobody does.
@@ -146,17 +165,11 @@ impl<R: Files + Net + Clone + Drop> Link for MioLink<R> {
     {
         ready.clear();
         ready.reserve(1)?;
-        if !self.poll(0) {
-            return Ok(self.fail());
-        }
-        let mut first = first_ready(wants, &self.standing);
-        if first.is_none() && limit > 0 {
-            if !self.poll(limit) {
-                return Ok(self.fail());
-            }
-            first = first_ready(wants, &self.standing);
-        }
-        if let Some(first) = first {
+        let found = match self.find_ready(wants, limit) {
+            Ok(found) => found,
+            Err(_) => return Ok(self.fail()),
+        };
+        if let Some(first) = found {
             ready.push_reserved(first);
         }
         Ok(Done::Done)

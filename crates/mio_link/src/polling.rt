@@ -7,6 +7,7 @@ use crate::listening::Polling;
 use crate::standing::{BOTH, READ, Standing, WRITE};
 use mio::Events;
 use mio::event::Event;
+use std::io;
 use std::time::Duration;
 use tree_specs::Want;
 
@@ -27,22 +28,20 @@ fn note(events: &Events, standing: &mut Standing) {
     }
 }
 
-/// Waits for anything to come, at most `limit` microseconds, and notes it. Answers whether the system let it.
-pub(crate) fn poll_for(polling: &mut Polling, standing: &mut Standing, limit: u64) -> bool {
+/// Waits for anything to come, at most `limit` microseconds, and notes it. A signal ends the wait with nothing.
+pub(crate) fn poll_for(
+    polling: &mut Polling,
+    standing: &mut Standing,
+    limit: u64,
+) -> io::Result<()> {
     let timeout = Duration::from_micros(limit);
-    if polling
-        .poll
-        .poll(&mut polling.events, Some(timeout))
-        .is_err()
-    {
-        return false;
-    }
+    polling.poll.poll(&mut polling.events, Some(timeout))?;
     note(&polling.events, standing);
-    true
+    Ok(())
 }
 
 /// What a descriptor is ready for, as it stands, of what is wanted of it.
-#[tactic(auto, using(crate::proofs::SocketLaws::part_wanted, Rattle.std.proofs.lemmas.Nat::and_le_l))]
+#[tactic(auto, using(crate::proofs::SocketLaws::part_wanted))]
 fn part_of(standing: u32, want: Want) -> Option<Want>
     requires { standing ≤ 3 }
     ensures whole { IfSome result (λ ready. is_want ready ≡ true) }
