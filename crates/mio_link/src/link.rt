@@ -25,8 +25,8 @@ use tree_specs::{Memory, Want};
 
 /// A link over non-blocking Unix sockets. It tells nothing of its calls.
 ///
-/// It opens nothing before it listens, and it listens once. The file that `listen` made is removed where the link is dropped or its
-/// descriptor 0 is closed. No other file ever is: one that stands at the path already fails `listen`.
+/// It opens nothing before it listens, and it listens once. The file that `listen` made is removed where the link is
+/// dropped or its descriptor 0 is closed. No other file ever is: one that stands at the path already fails `listen`.
 #[derive(Drop)]
 pub struct MioLink<R: Files + Net + Clone + Drop> {
     runtime: R,
@@ -129,8 +129,8 @@ impl<R: Files + Net + Clone + Drop> Link for MioLink<R> {
 
     ghost is_open = { has_open };
 
-    /// It fails where anything is at the path already, where the path is longer than 107 bytes, and where the link listens or has
-    /// listened.
+    /// It fails where anything is at the path already, where the path is longer than 107 bytes, and where the link
+    /// listens or has listened.
     fn listen(&mut self, path: &str) -> Result<Done, Memory>
         ensures cause { HasCause (link_faults self.old) (link_faults self.new) (has_failed result) }
         ensures no_fault { OnErr result (link_faults self.new ≡ link_faults self.old) }
@@ -152,9 +152,9 @@ impl<R: Files + Net + Clone + Drop> Link for MioLink<R> {
         Ok(Done::Done)
     }
 
-    /// What has come is noted first, without waiting, so that no descriptor is kept from its turn by another one that is always
-    /// ready. Then the first that is ready, in the order of `wants`, is left in `ready`, and no other: a turn takes the first of
-    /// its rotation that is ready.
+    /// What has come is noted first, without waiting, so that no descriptor is kept from its turn by another one that
+    /// is always ready. Then the first that is ready, in the order of `wants`, is left in `ready`, and no other: a turn
+    /// takes the first of its rotation that is ready.
     fn wait(&mut self, wants: &[Want], limit: u64, ready: &mut Vec<Want>) -> Result<Done, Memory>
         ensures ready { AreReady wants.now ready.new.items }
         ensures cause { HasCause (link_faults self.old) (link_faults self.new) (has_failed result) }
@@ -175,8 +175,8 @@ impl<R: Files + Net + Clone + Drop> Link for MioLink<R> {
         Ok(Done::Done)
     }
 
-    /// Only descriptor 0 listens; of any other it is a fault. So is want of a descriptor: then the listener isn't ready until a
-    /// connection is closed or somebody else comes.
+    /// Only descriptor 0 listens; of any other it is a fault. So is want of a descriptor: then the listener isn't ready
+    /// until a connection is closed or somebody else comes.
     fn accept(&mut self, fd: u32) -> Result<Accepted, Memory>
         ensures open { AcceptsOpen (has_open self.old) (has_open self.new) result }
         ensures faults { link_faults self.new ≡ link_faults self.old }

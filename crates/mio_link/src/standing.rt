@@ -5,7 +5,9 @@ use std::alloc::Global;
 use tree_specs::Memory;
 
 pub(crate) const READ: u8 = 1;
+
 pub(crate) const WRITE: u8 = 2;
+
 pub(crate) const BOTH: u8 = 3;
 
 /// What each descriptor is ready for, as the system has told and no call has found otherwise since.

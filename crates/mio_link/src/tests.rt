@@ -1,13 +1,13 @@
 use super::*;
 use mio::net::UnixStream;
 use outside::{Accepted, Done, Link, LinkRead, LinkWrote};
-use std::fs;
 use std::io::{Read, Write};
-use std::process;
 use std::test::Fail;
+use std::{fs, process};
 use tree_specs::Want;
 
 const LISTENER: [Want; 1] = [Want { fd: 0, flags: 1 }];
+
 const BOTH: [Want; 2] = [Want { fd: 0, flags: 1 }, Want { fd: 1, flags: 3 }];
 
 // The longest that a wait of this test takes, in microseconds.

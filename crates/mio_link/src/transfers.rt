@@ -10,7 +10,8 @@ use tree_specs::OCTETS_LIMIT;
 /// How often a call that a signal interrupted is made again, before the descriptor counts as not ready.
 const RETRIES: usize = 64;
 
-/// Reads some bytes to the front of `buf`. A connection that was reset has failed; one whose peer sends no more has ended.
+/// Reads some bytes to the front of `buf`. A connection that was reset has failed; one whose peer sends no more has
+/// ended.
 pub(crate) fn read_some(mut stream: &UnixStream, buf: &mut [u8]) -> LinkRead
     requires { 0 < length buf.old }
     ensures { ReadsWithin result (length buf.new) }

@@ -1,4 +1,5 @@
 pub mod OutputLaws
+pub mod TellingLaws
 pub mod NoteLaws
 pub mod LinkLaws
 pub mod ClockLaws

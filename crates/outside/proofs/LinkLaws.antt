@@ -1,6 +1,5 @@
 -- Links in memory: what is told of each call, which answers fit, and what is open.
-use Rattle.std.proofs.Common.{◌≡◌, ◌==◌, ℕ, Bool, true, false, not, ◌&&◌, List, [], ◌∷◌, length, filter, nat_le, Option, Some, None, refl, sym, arith}
-use Rattle.std.proofs.lemmas.List.{append-nil}
+use Rattle.std.proofs.Common.{◌≡◌, ◌==◌, ℕ, Bool, true, false, not, ◌&&◌, List, [], ◌∷◌, length, filter, nat_le, Option, Some, None, refl, arith}
 use Rattle.std.proofs.lemmas.Bool.Decides.{nat_tests}
 use Rattle.tree_specs.specs.declared.question.Input.{Input}
 use Rattle.tree_specs.specs.declared.question.Input.TheVariants as inputs
@@ -9,27 +8,20 @@ use Rattle.outside.specs.Descriptors.{is_among}
 use Rattle.outside.specs.LinkCalls.{LinkCall}
 use Rattle.outside.specs.Notes.{Noted, told_with, noted_with, written_by}
 use Rattle.outside.specs.Scripts.{fits_read, fits_write, given}
+use Rattle.outside.proofs.TellingLaws.{tells_nothing}
 
 -- ---- what is told
-
-pub tells_same : {A : Type 0} (told : Option (List A)) → Tells told told []
-tells_same None = refl
-tells_same (Some told) = sym (append-nil told)
 
 tells_with : (told : Option (List LinkCall)) (call : LinkCall) → Tells told (told_with told call) (call ∷ [])
 tells_with None call = refl
 tells_with (Some told) call = refl
-
-tells_no_more : (told : Option (List LinkCall)) (call : LinkCall) → Tells told None (call ∷ [])
-tells_no_more None call = refl
-tells_no_more (Some told) call = tt
 
 pub tells_noted : (noted : Noted) (call : LinkCall) → Tells noted.told (noted_with noted call).told (call ∷ [])
 tells_noted noted call = go (nat_le 1 noted.calls_left && nat_le (written_by call) noted.bytes_left) refl
   where
     go : (b : Bool) → (nat_le 1 noted.calls_left && nat_le (written_by call) noted.bytes_left) ≡ b → Tells noted.told (noted_with noted call).told (call ∷ [])
     go true e = rw e (tells_with noted.told call)
-    go false e = rw e (tells_no_more noted.told call)
+    go false e = rw e (tells_nothing noted.told None (call ∷ []) refl)
 
 -- ---- which answers fit
 

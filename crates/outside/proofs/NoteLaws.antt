@@ -21,7 +21,7 @@ calls_in-append [] n xs ys e f = rw (no_bytes xs e, f, take_all (length ys) ys (
 calls_in-append (m ∷ ms) n xs ys e f =
     let k : ℕ = bytes_of m in
     rw (take-append-le k xs ys (omega (arith, e)), drop-append-le k xs ys (omega (arith, e)))
-      (ap (λ rest. call_of m (take k xs) ∷ rest) (calls_in-append ms n (drop k xs) ys (rw length-drop (omega (arith, e))) f))
+    (ap (λ rest. call_of m (take k xs) ∷ rest) (calls_in-append ms n (drop k xs) ys (rw length-drop (omega (arith, e))) f))
 
 pub keeps_bytes : (ns now : List Note) (n : Note) (xs held ys : List ℕ) → now ≡ ns ++ n ∷ [] → held ≡ xs ++ ys → bytes_in ns ≡ length xs → bytes_of n ≡ length ys →
     bytes_in now ≡ length held

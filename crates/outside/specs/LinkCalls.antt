@@ -1,4 +1,5 @@
--- What a link tells: its calls, each with what it was given and its answer. Of a call that found no memory nothing is told.
+-- What a link tells: its calls, each with what it was given and its answer. Of a call that found no memory nothing is
+-- told.
 use Rattle.std.specs.Prelude.{ℕ, List, [], ◌∷◌, take, Option, Some, None, Result, Ok, Err}
 use Rattle.tree_specs.specs.declared.memory.Memory.{Memory}
 use Rattle.tree_specs.specs.declared.wants.Want.{Want}

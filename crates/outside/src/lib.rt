@@ -1,6 +1,7 @@
-//! What the host has to do with the outside, each kind as a trait: where bytes come from and go to, the connections that it
-//! serves, what tells the time, and what the routines of objects do. Each trait has ends in memory, which tell what they were
-//! asked and fail when told, and there are ends over std's readers and writers and over the runtime's clock.
+//! What the host has to do with the outside, each kind as a trait: where bytes come from and go to, the connections
+//! that it serves, what tells the time, and what the routines of objects do. Each trait has ends in memory, which tell
+//! what they were asked and fail when told, and there are ends over std's readers and writers and over the runtime's
+//! clock.
 #![tactic(auto)]
 
 mod clock;

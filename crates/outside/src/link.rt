@@ -45,8 +45,8 @@ pub enum LinkWrote {
     Fault,
 }
 
-/// A listener at a path, and the connections that it has accepted. The listener's descriptor is 0, and those of connections
-/// are from 1 upwards.
+/// A listener at a path, and the connections that it has accepted. The listener's descriptor is 0, and those of
+/// connections are from 1 upwards.
 pub trait Link {
     /// The calls with their answers so far, where the link tells them. Of a call that found no memory it tells nothing.
     ghost told: { Self → Option (List LinkCall) };
@@ -68,8 +68,8 @@ pub trait Link {
         ensures open { SameOpen (is_open self.old) (is_open self.new) }
         ensures told { Tells (told self.old) (told self.new) (listen_calls path.now result) };
 
-    /// Waits until one of these is ready, at most `limit` microseconds, and leaves in `ready` which are, the least first. It may
-    /// leave fewer than are ready. `Failed` comes only where the count of faults rose in this call.
+    /// Waits until one of these is ready, at most `limit` microseconds, and leaves in `ready` which are, the least
+    /// first. It may leave fewer than are ready. `Failed` comes only where the count of faults rose in this call.
     ///
     /// # Errors
     ///
@@ -81,7 +81,8 @@ pub trait Link {
         ensures open { SameOpen (is_open self.old) (is_open self.new) }
         ensures told { Tells (told self.old) (told self.new) (wait_calls wants.now limit result ready.new.items) };
 
-    /// Connects one who waits at the listener of this descriptor. The connection's descriptor is 1 or above, and wasn't open.
+    /// Connects one who waits at the listener of this descriptor. The connection's descriptor is 1 or above, and wasn't
+    /// open.
     ///
     /// # Errors
     ///

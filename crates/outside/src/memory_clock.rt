@@ -31,7 +31,8 @@ impl Model for MemClock {
 }
 
 impl MemClock {
-    /// A clock that tells these times in microseconds, then the last of them again and again, and 0 where there are none.
+    /// A clock that tells these times in microseconds, then the last of them again and again, and 0 where there are
+    /// none.
     pub fn new(values: Vec<u64>) -> MemClock
         requires { IsTrue (list_all is_time values.items) }
         ensures { result ≡ record { values = values.items; told = 0 } }

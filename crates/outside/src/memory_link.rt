@@ -15,17 +15,21 @@ use crate::link::{Accepted, Link, LinkRead, LinkWrote};
 use crate::notes::{Note, Notes};
 use crate::open_set::OpenSet;
 use crate::pace::Pace;
-use crate::prepared::{accept_of, copy_ready, fits_accept, fits_read, fits_wait, fits_write, read_of, write_of};
+use crate::prepared::{
+    accept_of, copy_ready, fits_accept, fits_read, fits_wait, fits_write, read_of, write_of,
+};
 use crate::script::Script;
 use crate::sink::Done;
 use std::alloc::Global;
 use std::marker::Model;
 use tree_specs::{Input, Memory, Want};
 
-/// A link that gives answers that were prepared, and whose listening and waiting fails when it is told to. An answer that doesn't
-/// fit the call stays the next one; then, and once the answers are used up, nothing is ready and nobody connects.
+/// A link that gives answers that were prepared, and whose listening and waiting fails when it is told to. An answer
+/// that doesn't fit the call stays the next one; then, and once the answers are used up, nothing is ready and nobody
+/// connects.
 ///
-/// Contracts see the answers that are left, how it goes, what is open, and the calls, for as long as there was room to note them.
+/// Contracts see the answers that are left, how it goes, what is open, and the calls, for as long as there was room to
+/// note them.
 #[derive(Drop)]
 pub struct MemLink {
     alloc: Global,
@@ -44,8 +48,8 @@ impl Model for MemLink {
 }
 
 impl MemLink {
-    /// A link that gives these answers, and has room to tell `calls` calls and `written` bytes that it is given to write. `fails`
-    /// are the numbers of those calls of `listen` and `wait` that fail, counted from 1.
+    /// A link that gives these answers, and has room to tell `calls` calls and `written` bytes that it is given to
+    /// write. `fails` are the numbers of those calls of `listen` and `wait` that fail, counted from 1.
     ///
     /// # Errors
     ///
@@ -69,7 +73,7 @@ impl MemLink {
     }
 }
 
-#[tactic(auto, using(crate::proofs::LinkLaws::tells_same, crate::proofs::LinkLaws::tells_noted, crate::proofs::LinkLaws::given_read, crate::proofs::LinkLaws::given_write))]
+#[tactic(auto, using(crate::proofs::TellingLaws::tells_same, crate::proofs::LinkLaws::tells_noted, crate::proofs::LinkLaws::given_read, crate::proofs::LinkLaws::given_write))]
 impl Link for MemLink {
     ghost told = { λ l. l.noted.told };
 
@@ -170,7 +174,8 @@ impl Link for MemLink {
         let fits = fits_write(bytes.len(), self.script.front());
         let answer = self.script.give(fits);
         let result = write_of(&answer, bytes.len());
-        self.notes.add_with(Note::Write(fd, bytes.len(), answer), bytes);
+        self.notes
+            .add_with(Note::Write(fd, bytes.len(), answer), bytes);
         result
     }
 

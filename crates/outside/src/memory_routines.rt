@@ -15,7 +15,8 @@ use tree_specs::{Act, Memory, Moment};
 #[derive(Drop)]
 pub struct MemRoutines {
     acts: VecDeque<Act>,
-    /// An act is given away and a moment is only lent, so what was told is a history that proofs alone read. It takes no memory.
+    /// An act is given away and a moment is only lent, so what was told is a history that proofs alone read. It takes
+    /// no memory.
     told: Log<Moment, Act>,
 }
 

@@ -44,9 +44,9 @@ impl Model for Notes {
     ghost Value = { Noted };
 
     ghost view = { λ n. record {
-        told = if n.tells then Some (calls_in n.notes.items n.written.items) else None;
-        calls_left = n.calls_left;
-        bytes_left = n.bytes_left;
+      told = if n.tells then Some (calls_in n.notes.items n.written.items) else None;
+      calls_left = n.calls_left;
+      bytes_left = n.bytes_left;
     } };
 
     ghost invariant = { λ n. (n.calls_left + vec_len n.notes ≤ vec_capacity n.notes)
@@ -105,9 +105,9 @@ impl Notes {
         requires room { (nat_le 1 self.old.calls_left && nat_le (length bytes.now) self.old.bytes_left) ≡ true }
         requires same { bytes_of note ≡ length bytes.now }
         ensures { self.new ≡ record {
-            told = told_with self.old.told (call_of note bytes.now);
-            calls_left = self.old.calls_left - 1;
-            bytes_left = self.old.bytes_left - length bytes.now;
+          told = told_with self.old.told (call_of note bytes.now);
+          calls_left = self.old.calls_left - 1;
+          bytes_left = self.old.bytes_left - length bytes.now;
         } }
     {
         self.notes.push_reserved(note);

@@ -10,7 +10,8 @@ use tree_specs::{Act, Memory, Moment};
 
 /// Destructors, handlers and callbacks, which are asked at each moment of their run what they do.
 pub trait Routines {
-    /// The moments with their acts so far, where they are told. Of a moment at which no memory was found nothing is told.
+    /// The moments with their acts so far, where they are told. Of a moment at which no memory was found nothing is
+    /// told.
     ghost told: { Self → Option (List (MomentData × ActData)) };
 
     /// What the routine of this moment does: a call whose numbers are in range, or a return.

@@ -196,7 +196,10 @@ fn an_answer_that_does_not_fit_stays_the_next_one(rt: HostRuntime) -> Result<(),
     answers.push(Input::Wrote(2))?;
     let mut link = MemLink::new(rt.alloc(), answers, Vec::new(rt.alloc()), 16, 16)?;
     let mut found = Vec::new(rt.alloc());
-    assert_eq!(rt; link.wait(&[Want { fd: 5, flags: 1 }], 9, &mut found)?, Done::Done);
+    assert_eq!(rt;
+        link.wait(&[Want { fd: 5, flags: 1 }], 9, &mut found)?,
+        Done::Done
+    );
     assert_eq!(rt; found.len(), 0);
     assert_eq!(rt; link.write(1, b"abc"), LinkWrote::Again);
     assert_eq!(rt; link.wait(&LISTENER, 9, &mut found)?, Done::Done);
