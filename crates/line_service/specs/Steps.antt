@@ -14,9 +14,7 @@ use Rattle.tree_specs.specs.Machine.View.{View, question_of}
 use Rattle.host_core.specs.Promises.{RepliesAtOnce, TakesAnswer}
 use Rattle.service_rules.specs.declared.order.Order.{Order}
 use Rattle.service_rules.specs.declared.order.Order.TheVariants as order
-use Rattle.service_rules.specs.declared.task.Serving.TheVariants as serving
 use Rattle.service_rules.specs.declared.task.Task.{Task}
-use Rattle.service_rules.specs.declared.task.Task.TheVariants as task
 use Rattle.service_rules.specs.Lines.{is_served}
 use Rattle.service_rules.specs.Naming.{stranger_in}
 use Rattle.service_rules.specs.Service.{first_of_outside}
@@ -81,11 +79,6 @@ IsServed o = Unit {0}
 abbrev pub strange_in : Pool → Obj → Order → Option Obj
 strange_in p s (order.Call c) = stranger_in p s c
 strange_in p s o = None
-
--- it isn't the lines that are due
-abbrev pub IsNoLines : Task → Type 0
-IsNoLines (task.Serve s serving.Lines) = ⊥
-IsNoLines t = Unit {0}
 
 -- one step: an event is shown, the outside is asked, or nothing of it is seen
 abbrev pub StepLaw : Result Step Memory → StationView → StationView → Type 0

@@ -4,13 +4,18 @@
 //! It goes on by small steps. An own routine that is asked has a task, which comes of the moment at which it is asked; once
 //! it is known it is due, until its call was taken. So a step that wants memory can be made again, and what comes is the
 //! same.
-ghost use Rattle.std.specs.Prelude.{◌≡◌, ◌↔◌, IsSome, IsTrue, Err, Some, None, true, OnOk, OnErr};
+ghost use Rattle.std.specs.Prelude.{◌≡◌, ◌↔◌, ◌<◌, ℕ, IsSome, IsTrue, IfOk, Err, Some, None, true, OnOk, OnErr};
 ghost use Rattle.tree_specs.specs.Words.Ranges.{is_sound, is_sound_call};
 ghost use Rattle.tree_specs.specs.declared.question.Ask.TheVariants.{Quiet};
 ghost use Rattle.tree_specs.specs.declared.question.Input.TheVariants as inputs;
 ghost use Rattle.tree_specs.specs.Machine.View.{question_of};
 ghost use Rattle.host_core.specs.Promises.{Waits};
-ghost use Rattle.line_service.specs.Steps.{Gives, SetsUp};
+ghost use Rattle.std.specs.Option.{option_copied};
+ghost use Rattle.tree_specs.specs.declared.question.Ask.{Ask as AskData};
+ghost use Rattle.service_rules.specs.Service.{shows, told};
+ghost use Rattle.service_rules.specs.Stations.{outside_question as outside_asked};
+ghost use Rattle.line_service.specs.Runs.{changed};
+ghost use Rattle.line_service.specs.Steps.{Gives, IsPrepared, IsServed, IsShownBy, SetsUp, answerer_of, strange_in};
 
 use crate::answerer::Answerer;
 use crate::naming::stranger_in;
@@ -70,7 +75,7 @@ fn give(host: &mut Host, left: &mut u64, input: Input) -> Result<(), Memory>
 
 /// The question that the outside is asked. None where none is open, and where the service answers it itself.
 fn outside_question(host: &Host) -> Option<&Ask>
-    ensures question { option_copied result ≡ outside_question (question_of host.now) }
+    ensures question { option_copied result ≡ outside_asked (question_of host.now) }
     ensures waits { IsSome result → Waits host.now }
 {
     let ask = host.question()?;
@@ -184,6 +189,12 @@ impl Station {
     ghost use Rattle.tree_specs.specs.Texts.Schedule.{misfit};
     ghost use Rattle.host_core.specs.Promises.{taken_by};
     ghost use Rattle.service_rules.specs.Stations.{IsAsked, NextLaw, Shows, TakesAnswer, asked_of, strays_to_come, unborn};
+    ghost use Rattle.std.specs.Prelude.{false};
+    ghost use Rattle.service_rules.specs.Knowledge.{connection_of};
+    ghost use Rattle.service_rules.specs.Knowledge.Setup.{Complete};
+    ghost use Rattle.service_lines.specs.Orders.{is_sound_order};
+    ghost use Rattle.service_desk.specs.Desks.{are_lines};
+    ghost use Rattle.service_desk.specs.Fronts.{HasLine, HasOrder, lines_of};
     ghost use Rattle.line_service.specs.Steps.{StepLaw, is_own};
 
     /// A service without connections, over a host of its own in which the two calls were done that set it up: its object is
@@ -325,12 +336,12 @@ impl Station {
     /// The line in front of a session's connection is done, where a whole one came.
     fn do_line(&mut self, session: Obj) -> Result<(), Memory>
         requires own { is_own (question_of self.old.host) ≡ true }
-        requires due { self.old.due ≡ Some (tasks.Serve session servings.Lines) }
+        requires due { self.old.due ≡ Some (lines_of session) }
         ensures { Shows [] self.old self.new }
     {
         match self.desk.front(session)? {
             Front::Order { length, tag, order } => self.do_order(session, length, tag, order),
-            Front::Answered => Ok(()),
+            Front::Done => Ok(()),
             Front::Missing => {
                 self.desk.lines_done(session);
                 Ok(())
@@ -340,10 +351,18 @@ impl Station {
 
     /// What the line in front asks for is done, which has so many bytes. A line that names what isn't its session's is
     /// answered.
-    fn do_order(&mut self, session: Obj, length: usize, tag: u32, order: Order) -> Result<(), Memory>
+    fn do_order(
+        &mut self,
+        session: Obj,
+        length: usize,
+        tag: u32,
+        order: Order,
+    ) -> Result<(), Memory>
         requires own { is_own (question_of self.old.host) ≡ true }
-        requires due { self.old.due ≡ Some (tasks.Serve session servings.Lines) }
-        requires front { HasOrder (connection_of self.old.knows session) length tag order }
+        requires due { self.old.due ≡ Some (lines_of session) }
+        requires line { HasLine length (connection_of self.old.knows session) }
+        requires asks { HasOrder length tag order (connection_of self.old.knows session) }
+        requires sound { is_sound_order order ≡ true }
         ensures { Shows [] self.old self.new }
     {
         if let Some(x) = strange_name(&self.host, session, &order) {
@@ -360,7 +379,7 @@ impl Station {
     fn do_task(&mut self, due: Task) -> Result<(), Memory>
         requires own { is_own (question_of self.old.host) ≡ true }
         requires due { self.old.due ≡ Some due }
-        requires calls { IsNoLines due }
+        requires calls { are_lines due ≡ false }
         ensures { Shows [] self.old self.new }
     {
         match self.desk.call(due)? {
