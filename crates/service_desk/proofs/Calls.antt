@@ -1,7 +1,6 @@
 -- What the task of a session calls, where its connection is known.
-use Rattle.std.proofs.Common.{◌≡◌, Bool, true, false, Option, Some, None, refl, ap, ◌∙◌}
+use Rattle.std.proofs.Common.{◌≡◌, false, Some, refl, ap, ◌∙◌}
 use Rattle.tree_specs.specs.declared.object.Obj.{Obj}
-use Rattle.tree_specs.specs.declared.call.Call.{Call}
 use Rattle.tree_specs.specs.Tree.Pool.{Pool}
 use Rattle.service_rules.specs.declared.task.Notice.{Notice}
 use Rattle.service_rules.specs.declared.task.Notifying.{Notifying}

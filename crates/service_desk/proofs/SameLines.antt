@@ -1,5 +1,5 @@
 -- The lines of a connection: with one of them done, the same is done next.
-use Rattle.std.proofs.Common.{◌≡◌, ℕ, suc, ◌+◌, length, Bool, true, false, List, [], ◌∷◌, ◌++◌, take, drop, Option, Some, None, refl, sym, ◌∙◌, ap, subst, append-nil}
+use Rattle.std.proofs.Common.{◌≡◌, ℕ, suc, ◌+◌, length, Bool, true, false, List, [], ◌∷◌, take, drop, Option, Some, None, refl, sym, ◌∙◌, ap, subst, append-nil}
 use Rattle.tree_specs.specs.declared.object.Obj.{Obj}
 use Rattle.tree_specs.specs.declared.call.Call.{Call}
 use Rattle.tree_specs.specs.declared.reply.Refusal.TheVariants.{NoSuch}
@@ -7,23 +7,21 @@ use Rattle.tree_specs.specs.Tree.Pool.{Pool}
 use Rattle.service_rules.specs.declared.answer.Answer.TheVariants.{No}
 use Rattle.service_rules.specs.declared.order.Order.{Order}
 use Rattle.service_rules.specs.declared.order.Order.TheVariants as order
-use Rattle.service_rules.specs.declared.task.Serving.{Serving}
 use Rattle.service_rules.specs.declared.task.Serving.TheVariants as serving
-use Rattle.service_rules.specs.declared.task.Task.{Task}
 use Rattle.service_rules.specs.declared.task.Task.TheVariants.{Serve}
 use Rattle.service_rules.specs.Lines.{front_of, after_newline, line_of}
 use Rattle.service_rules.specs.Lines.Front.{Whole, Long, Part}
 use Rattle.service_rules.specs.Knowledge.{Connection, Knowledge, connection_of, with_connection, saying}
 use Rattle.service_rules.specs.Answers.{form_line, long_line, answer_line}
 use Rattle.service_rules.specs.Naming.{stranger_in}
-use Rattle.service_rules.specs.Routines.{Next, Verdict, verdict_of, Progress, stops, after_line, after_verdict, after_front, after_drop, through, progress_of, progressed, goes_on, gone_through, serves, serving_on, doing, does, served, fulfilling_for, order_call}
-use Rattle.service_rules.specs.Routines.Next.{Does, Returns}
+use Rattle.service_rules.specs.Routines.{verdict_of, Progress, stops, after_line, after_verdict, after_front, through, progress_of, progressed, goes_on, gone_through, serves, serving_on, doing, does, served, fulfilling_for, order_call}
+use Rattle.service_rules.specs.Routines.Next.{Does}
 use Rattle.service_rules.specs.Routines.Verdict.{Answers, Wants}
-use Rattle.service_rules.specs.Tasks.{after_reading, after_writing, flagging, flags_to_set, unless_empty}
+use Rattle.service_rules.specs.Tasks.{after_reading, flagging, flags_to_set, unless_empty}
 use Rattle.service_rules.proofs.LineLaws.{with_left, progress-answered, progress-long, progress-dropped, said-now}
 use Rattle.service_lines.specs.Cuts.{Came, resumed, resumed_at}
 use Rattle.service_desk.specs.Desks.{changed, changed_at}
-use Rattle.service_desk.specs.Fronts.{came_on, IsResumed, IsLine, IsLong, IsPart, IsFormless, Asks, lines_of, ServesTheSame, resumed_on, without_line, NamesItsOwn}
+use Rattle.service_desk.specs.Fronts.{came_on, IsLine, IsPart, IsFormless, Asks, lines_of, resumed_on, without_line, NamesItsOwn}
 use Rattle.service_desk.proofs.Connections.{found_put, put_put}
 
 -- the same comes of the lines of both connections

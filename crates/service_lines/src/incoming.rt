@@ -94,6 +94,7 @@ impl Incoming {
     pub fn skip(&mut self) -> bool
         ensures resumed { self.new ≡ resumed self.old }
         ensures kept { result ≡ false → self.new ≡ self.old }
+        ensures fewer { result ≡ true → length_of self.new.came < length_of self.old.came }
     {
         if !self.skips {
             return false;
