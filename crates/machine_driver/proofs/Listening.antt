@@ -1,6 +1,6 @@
 -- The story of a driver that answers no question itself, one event, one question, one answer at a time.
 use std.Path.{fun_ext}
-use Rattle.std.proofs.Common.{◌≡◌, ℕ, suc, zero, ◌+◌, ◌≤◌, ◌<◌, List, [], ◌∷◌, ◌++◌, length, Option, Some, None, refl, sym, ◌∙◌, ap, arith, subst}
+use Rattle.std.proofs.Common.{◌≡◌, ℕ, suc, zero, ◌<◌, List, [], ◌∷◌, ◌++◌, length, Option, Some, None, refl, ◌∙◌, ap, arith}
 use Rattle.machine_driver.specs.Driver.{Driver, Kind, Given, Story, tail, later, answered, with_first, with_front, filled, through, at_item, answer, from_outside, passed_on, driven, items_or_none}
 use Rattle.machine_driver.specs.Driver.Kind.{Event, Question}
 use Rattle.machine_driver.specs.Driver.Given.{Pass, Reply, Misfit}

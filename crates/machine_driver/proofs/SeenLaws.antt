@@ -1,5 +1,5 @@
 -- A machine that is seen does what it does unseen.
-use Rattle.std.proofs.Common.{◌≡◌, ℕ, suc, zero, ◌<◌, List, [], ◌∷◌, Option, Some, None, refl, ◌∙◌, ap, map}
+use Rattle.std.proofs.Common.{◌≡◌, ℕ, suc, zero, ◌<◌, List, [], ◌∷◌, Option, Some, None, refl, ◌∙◌, ap}
 use Rattle.step_machine.specs.Machine.{Move, Table, map_items, tell, given, after, run, leads, walk}
 use Rattle.step_machine.specs.Machine.Move.{Done, Go, Emit, Wait, Call}
 use Rattle.step_machine.specs.Noted.{Noted, Notes, Scene, noted, noted_move, noted_work, with_note, scene}

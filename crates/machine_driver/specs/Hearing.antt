@@ -1,5 +1,5 @@
 -- The story of a driver that answers no question itself: as many answers come as the outside gives.
-use Rattle.std.specs.Prelude.{◌≡◌, suc, List, length, None}
+use Rattle.std.specs.Prelude.{◌≡◌, suc, length, None}
 use Rattle.machine_driver.specs.Driver.{Driver, Story, driven, items_or_none}
 
 -- it answers nothing itself

@@ -14,39 +14,19 @@ pub enum Accepting {
     /// Whoever connects is accepted.
     Accept,
     /// The session of this descriptor is made.
-    Session {
-        fd: u32,
-    },
+    Session { fd: u32 },
     /// Its event is made.
-    Event {
-        fd: u32,
-        session: Obj,
-    },
+    Event { fd: u32, session: Obj },
     /// The descriptor is closed with the event.
-    Autoclose {
-        fd: u32,
-        session: Obj,
-        event: Obj,
-    },
+    Autoclose { fd: u32, session: Obj, event: Obj },
     /// Its queue is made.
-    Queue {
-        fd: u32,
-        session: Obj,
-        event: Obj,
-    },
+    Queue { fd: u32, session: Obj, event: Obj },
     /// There is no event: the session is freed, and then the descriptor is closed.
-    Abandon {
-        fd: u32,
-        session: Obj,
-    },
+    Abandon { fd: u32, session: Obj },
     /// There is no session: the descriptor is closed.
-    Close {
-        fd: u32,
-    },
+    Close { fd: u32 },
     /// There is no queue: the session is freed.
-    Free {
-        session: Obj,
-    },
+    Free { session: Obj },
 }
 
 /// What doing a line does next, or waits for.
