@@ -6,7 +6,7 @@ use Rattle.outside.specs.declared.output.PutError.TheVariants as put_errors
 use Rattle.schedule_replay.specs.declared.ran.Ran.{Ran}
 use Rattle.schedule_replay.specs.declared.ran.Ran.TheVariants as rans
 use Rattle.schedule_replay.specs.Runs.{Replays, IsFrontOf}
-use Rattle.schedule_replay.proofs.SessionLaws.{not-begun}
+use Rattle.schedule_replay.proofs.WholeLaws.{not-begun}
 use Rattle.load_schedule.specs.Loads.{PutsFiveLines}
 use Rattle.load_schedule.proofs.LoadLaws.{load-front}
 use Rattle.command_words.specs.declared.command.Command.{Command}

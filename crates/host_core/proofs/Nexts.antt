@@ -189,7 +189,7 @@ pub next-law : (e : Event) (old : Active) (parts : Parts) (now : Active) (o : Ob
 next-law e old parts now o v w b s is t along =
     let told = told-next e old parts now o b t in
     let a = event-along _ _ _ e told.after along in
-    subst (λ (z : View). NextLaw (Some e) z w) is (question_seen old (reverse parts.waiting.items) parts.objects b.ready s ∙ unasked old b t, a.law, a.strays)
+    subst (λ (z : View). NextLaw (Some e) z w) is (question_seen old (reverse parts.waiting.items) parts.objects b.ready s ∙ unasked old b t, a.law, a.strays, a.seen)
   where
     unasked : (old : Active) → IsBetweenSteps old parts → Tells (Some e) old parts.objects now o → asked_now old ≡ None
     unasked (active.Caller c) b t = stages c.stage t.0

@@ -51,6 +51,9 @@ use Rattle.host_core.specs.Callers.{frame_of, staged, open_at, remembers}
 use Rattle.host_core.specs.Stacks.{active_frame}
 use Rattle.host_core.specs.Moves.{report_of, call_of, reported}
 use Rattle.host_core.specs.Promises.{Waits, TakesAnswer, taken_in}
+use Rattle.machine_driver.specs.Seen.{sight}
+use Rattle.tree_stories.specs.Sights.{Sight, sights_of}
+use Rattle.tree_stories.proofs.Seeing.{question-seen}
 use Rattle.host_core.specs.Reaches.{outside_given, IsOutside}
 use Rattle.host_core.specs.Turns.{turn_asks, turn_given, frame_ready}
 use Rattle.host_core.specs.Hosts.{host_view, below_in, given_view, called_view, speaking_view, caller_asked, asked_now, begins_with, PartsReady, IsBetweenSteps, IsActing, TellsSameStory, IsReplyOf, IsCopy, IsReport}
@@ -174,12 +177,14 @@ turn-answered _ asked p i e m s = cc
 pub record Goes (q : Ask) (i : Input) (v w : View) : Type 0 where
   pub whole : IsConsistent w
   pub law : (is : List Input) → rest_of v (i ∷ is) ≡ Asked q ∷ rest_of w is
+  pub seen : (is : List Input) → sights_of v (i ∷ is) ≡ sight v.pool (Asked q) ∷ sights_of w is
   pub strays : (is : List Input) → strays_of v (i ∷ is) ≡ strays_of w is
 
 goes-to : (v : View) (q : Ask) (f g : Frame) (i : Input) → IsConsistent v → step v.innermost v.pool ≡ Do.Wait (Asked q) f v.pool → taken f v.pool i ≡ Some g → Goes q i v (record { innermost = g; below = v.below; pool = v.pool })
 goes-to v q f g i h w a = record {
   whole = question-whole v (Asked q) f g v.pool i h w a;
   law = λ is. question-items v (Asked q) f g v.pool i is h w a;
+  seen = λ is. question-seen v (Asked q) f g v.pool i is h w a;
   strays = λ is. question-strays v (Asked q) f g v.pool i is h w a;
 }
 
@@ -208,7 +213,7 @@ goes-replied q c r i v below p e g =
     let w : View = at (frame.Call (Doing q c)) below p in
     let quiet : speaking_view w ≡ false = rw e refl in
     let o = onward w (at (frame.Call (Telling (later q r) r)) below p) g.whole quiet (rw e refl) in
-    record { whole = o.along.whole; law = λ is. g.law is ∙ ap (λ (l : List Item). Asked q ∷ l) (o.along.same is); strays = λ is. g.strays is ∙ o.along.strays is }
+    record { whole = o.along.whole; law = λ is. g.law is ∙ ap (λ (l : List Item). Asked q ∷ l) (o.along.same is); seen = λ is. g.seen is ∙ ap (λ (l : List Sight). sight v.pool (Asked q) ∷ l) (o.along.seen is); strays = λ is. g.strays is ∙ o.along.strays is }
 
 -- the answer that wants a report is to do it
 reports : (q : Ask) (i : Input) (o : Owner) → reported (call_of i) ≡ Some o → begins_with q i ≡ Doing q (call.Report o)
@@ -224,6 +229,7 @@ pub record Offered (now : Active) (parts : Parts) (i : Input) (q : Ask) (w : Vie
   pub fits : misfit (asked_now now) i ≡ None
   pub whole : IsConsistent w
   pub law : (is : List Input) → rest_of (host_view now parts) (i ∷ is) ≡ Asked q ∷ rest_of w is
+  pub seen : (is : List Input) → sights_of (host_view now parts) (i ∷ is) ≡ sight (host_view now parts).pool (Asked q) ∷ sights_of w is
   pub strays : (is : List Input) → strays_of (host_view now parts) (i ∷ is) ≡ strays_of w is
 
 -- the works of a host whose caller, which was asked this, is told a reply that owns memory
@@ -276,6 +282,7 @@ module _ (now : Active) (parts : Parts) (i : Input) (ready : IsBetweenSteps now 
             fits = rw e (fits q e);
             whole = g.whole;
             law = λ is. ap (λ (z : CallFrame). rest_of (v z) (i ∷ is)) a ∙ g.law is;
+            seen = λ is. ap (λ (z : CallFrame). sights_of (v z) (i ∷ is)) a ∙ g.seen is;
             strays = λ is. ap (λ (z : CallFrame). strays_of (v z) (i ∷ is)) a ∙ g.strays is;
           }
       each _ ready fits e = cc
@@ -291,11 +298,12 @@ module _ (now : Active) (parts : Parts) (i : Input) (ready : IsBetweenSteps now 
       let g : Goes q i (host_view now parts) (v (Doing q (call.Report o))) = record {
         whole = subst (λ (z : CallFrame). IsConsistent (v z)) does f.whole;
         law = λ is. f.law is ∙ ap (λ (z : CallFrame). Asked q ∷ rest_of (v z) is) does;
+        seen = λ is. f.seen is ∙ ap (λ (z : CallFrame). sight (host_view now parts).pool (Asked q) ∷ sights_of (v z) is) does;
         strays = λ is. f.strays is ∙ ap (λ (z : CallFrame). strays_of (v z) is) does;
       } in
       let t = goes-replied q (call.Report o) r.reply i _ (below_in parts) parts.objects.pool (is.reply q) g in
       let l : remembers q r.copy ≡ later q r.reply = copy-is q i r o parts.objects.pool (acts i o wants) fit is.reply is.copy in
-      rw l (record { open_before = f.open_before; fits = f.fits; whole = t.whole; law = t.law; strays = t.strays })
+      rw l (record { open_before = f.open_before; fits = f.fits; whole = t.whole; law = t.law; seen = t.seen; strays = t.strays })
 
 -- any answer that fits
 pub offered : (now : Active) (parts : Parts) (i : Input) → IsBetweenSteps now parts → is_none (misfit (asked_now now) i) ≡ true → is_sound i ≡ true → taken_in parts.objects.pool i ≡ None
@@ -307,11 +315,11 @@ offered (active.Caller c) parts i ready fits s none =
 offered (active.Turning t) parts i ready fits s none =
     let f = fitting t.question i fits in
     let g = goes-told t.frame f.0 i (below_in parts) parts.objects.pool (sym ready.ready.question ∙ f.1) f.2 s ready.whole in
-    (f.0, record { open_before = f.1; fits = rw f.1 f.2; whole = g.whole; law = g.law; strays = g.strays })
+    (f.0, record { open_before = f.1; fits = rw f.1 f.2; whole = g.whole; law = g.law; seen = g.seen; strays = g.strays })
 offered (active.Reaching q) parts i ready fits s none =
     let m = no-reason (misfit (Some q) i) fits in
     let g = goes-reached q i (below_in parts) parts.objects.pool ready.ready m s none ready.whole in
-    (q, record { open_before = refl; fits = m; whole = g.whole; law = g.law; strays = g.strays })
+    (q, record { open_before = refl; fits = m; whole = g.whole; law = g.law; seen = g.seen; strays = g.strays })
 offered _ parts i ready fits s none = cc
 
 -- the question of a host by its parts
@@ -334,6 +342,9 @@ takes-answer v now parts i q w w' b s e o a = record {
   open_before = question-view v now parts b s e ∙ o.open_before;
   fits = ap (λ (z : Option Ask). misfit z i) (question-view v now parts b s e) ∙ o.fits;
   goes_on = λ is. ap (λ (z : View). rest_of z (i ∷ is)) (sym e) ∙ o.law is ∙ ap (λ (l : List Item). Asked q ∷ l) (a.same is);
+  seen = λ is.
+      ap (λ (z : View). sights_of z (i ∷ is)) (sym e) ∙ o.seen is ∙ ap (λ (l : List Sight). sight (host_view now parts).pool (Asked q) ∷ l) (a.seen is)
+      ∙ ap (λ (z : View). sight z.pool (Asked q) ∷ sights_of w' is) e;
   strays = λ is. ap (λ (z : View). strays_of z (i ∷ is)) (sym e) ∙ o.strays is ∙ a.strays is;
   more = λ is. always-more w' is a.whole;
 }

@@ -26,6 +26,9 @@ use Rattle.tree_specs.proofs.Turns.Lowering.{Room}
 use Rattle.tree_specs.proofs.Turns.Bound.{cost-turns}
 use Rattle.tree_specs.proofs.Turns.Falls.{Well, lower, falls}
 use Rattle.tree_specs.proofs.Rules.Rest.{most, well, event-whole, event-law, event-items, question-law, open-law, open-items, begins-items, ends-asked, silent-whole, silent-law, no-end, view_of_state}
+use Rattle.machine_driver.specs.Seen.{sight}
+use Rattle.tree_stories.specs.Sights.{Sight, sights_of}
+use Rattle.tree_stories.proofs.Seeing.{event-seen, silent-seen, begins-seen}
 use Rattle.host_core.specs.Promises.{Waits}
 use Rattle.host_core.specs.Hosts.{speaks, moved, next_of, speaking_view, TellsSameStory, StepsSilently}
 
@@ -53,6 +56,7 @@ silent-onward v s h e = record {
     rows = λ R r. (let l = (lowered R r).0 in omega arith);
     no_dearer = λ R r. (let l = (lowered R r).1 in omega arith);
     same = λ is. ap told_by (silent-law v s is h e);
+    seen = λ is. silent-seen v s is h e;
     strays = λ is. ap is_stray (silent-law v s is h e);
   };
   cheaper = λ R r. (lowered R r).1;
@@ -69,7 +73,7 @@ onward v w h t e =
 -- ---- one after another
 
 pub stays : (v : View) → IsConsistent v → TellsSameStory v v
-stays v h = record { whole = h; rows = λ R r. r; no_dearer = λ R r. omega arith; same = λ is. refl; strays = λ is. refl }
+stays v h = record { whole = h; rows = λ R r. r; no_dearer = λ R r. omega arith; same = λ is. refl; seen = λ is. refl; strays = λ is. refl }
 
 pub along-then : (u v w : View) → TellsSameStory u v → TellsSameStory v w → TellsSameStory u w
 along-then u v w a b = record {
@@ -77,6 +81,7 @@ along-then u v w a b = record {
   rows = λ R r. b.rows R (a.rows R r);
   no_dearer = λ R r. (let c = a.no_dearer R r in let d = b.no_dearer R (a.rows R r) in omega (arith, c, d));
   same = λ is. a.same is ∙ b.same is;
+  seen = λ is. a.seen is ∙ b.seen is;
   strays = λ is. a.strays is ∙ b.strays is;
 }
 
@@ -118,10 +123,11 @@ untaken-strays v q f p i h is-wait none =
 pub record AfterEvent (v w : View) (e : Event) : Type 0 where
   pub whole : IsConsistent w
   pub law : (is : List Input) → rest_of v is ≡ Told e ∷ rest_of w is
+  pub seen : (is : List Input) → sights_of v is ≡ sight v.pool (Told e) ∷ sights_of w is
   pub strays : (is : List Input) → strays_of v is ≡ strays_of w is
 
 emitted : (v : View) (e : Event) (f : Frame) (p : Pool) → IsConsistent v → step v.innermost v.pool ≡ Do.Emit (Told e) f p → AfterEvent v (record { innermost = f; below = v.below; pool = p }) e
-emitted v e f p h t = record { whole = event-whole v (Told e) f p h t; law = λ is. event-items v (Told e) f p is h t; strays = λ is. event-strays v (Told e) f p is h t }
+emitted v e f p h t = record { whole = event-whole v (Told e) f p h t; law = λ is. event-items v (Told e) f p is h t; seen = λ is. event-seen v (Told e) f p is h t; strays = λ is. event-strays v (Told e) f p is h t }
 
 pub after-event : (v w : View) (e : Event) → IsConsistent v → next_of v ≡ (Some e, w) → AfterEvent v w e
 after-event v w e h t = each (step v.innermost v.pool) v.below refl refl t
@@ -144,7 +150,7 @@ after-event v w e h t = each (step v.innermost v.pool) v.below refl refl t
         subst (λ (z : View). AfterEvent v z e) y' (emitted v e f q h (k ∙ ap (λ (z : Event). Do.Emit (Told z) f q) x'))
 
 pub event-along : (u v w : View) (e : Event) → AfterEvent u v e → TellsSameStory v w → AfterEvent u w e
-event-along u v w e a b = record { whole = b.whole; law = λ is. a.law is ∙ ap (λ (l : List Item). Told e ∷ l) (b.same is); strays = λ is. a.strays is ∙ b.strays is }
+event-along u v w e a b = record { whole = b.whole; law = λ is. a.law is ∙ ap (λ (l : List Item). Told e ∷ l) (b.same is); seen = λ is. a.seen is ∙ ap (λ (l : List Sight). sight u.pool (Told e) ∷ l) (b.seen is); strays = λ is. a.strays is ∙ b.strays is }
 
 -- ---- a question
 
@@ -155,6 +161,7 @@ waits-at v q h e = record {
   open_now = ap question_in e;
   last = open-items v (Asked q) v.innermost v.pool h e;
   begins = λ is. begins-items v (Asked q) v.innermost v.pool is h e;
+  begins_seen = λ is. begins-seen v (Asked q) v.innermost v.pool is h e;
   fits = ap is_stray (open-law v (Asked q) v.innermost v.pool h e);
 }
 

@@ -10,13 +10,17 @@ use Rattle.tree_specs.specs.declared.frame.CallFrame.TheVariants.{Asking}
 use Rattle.tree_specs.specs.declared.frame.FreeFrame.{FreeFrame}
 use Rattle.tree_specs.specs.declared.frame.TurnFrame.{TurnFrame}
 use Rattle.tree_specs.specs.declared.frame.TurnFrame.TheVariants.{Timing}
-use Rattle.tree_specs.specs.declared.frame.OutsideFrame.TheVariants.{Reaching}
+use Rattle.tree_specs.specs.declared.frame.OutsideFrame.TheVariants.{Opening, Reaching}
 use Rattle.tree_specs.specs.Rules.Items.Item.{Asked}
 use Rattle.tree_specs.specs.Tree.Pool.{Pool}
 use Rattle.tree_specs.specs.Words.Ranges.{is_routine}
 use Rattle.tree_specs.specs.Calls.Refusals.{is_open}
 use Rattle.tree_specs.specs.Texts.Schedule.{misfit}
+use Rattle.step_machine.specs.Machine.{Move as Do}
+use Rattle.tree_specs.specs.Machine.Table.{step, taken}
 use Rattle.tree_specs.specs.Machine.View.{View, strays_of}
+use Rattle.tree_stories.specs.Sights.{sights_of}
+use Rattle.tree_stories.proofs.Seeing.{open-seen, stray-seen}
 use Rattle.tree_specs.specs.Invariants.Consistent.{IsStacked, IsConsistent}
 use Rattle.host_core.specs.declared.active.Active.{Active}
 use Rattle.host_core.specs.declared.active.Active.TheVariants as active
@@ -87,21 +91,40 @@ turn-takes-not : (f : TurnFrame) (new : ℕ) → is_none (misfit (turn_asks f) (
 turn-takes-not (Timing again) new fits = cc
 turn-takes-not _ new fits = cc
 
-reach-strays : (q : Ask) (parts : Parts) (new fd : ℕ) → IsConsistent (host_view (active.Reaching q) parts) → is_none (misfit (Some q) (input.Took new)) ≡ true → taken_in parts.objects.pool (input.Took new) ≡ Some fd
-    → strays_of (host_view (active.Reaching q) parts) (input.Took new ∷ []) ≡ true
-reach-strays (ask.Accept listener) parts new fd h fits e =
-    untaken-strays (host_view (active.Reaching (ask.Accept listener)) parts) (Asked (ask.Accept listener)) (frame.Outside (Reaching (ask.Accept listener))) parts.objects.pool (input.Took new) h refl
-    (opens-not (is_routine new) (is_open parts.objects.pool new) new fd _ e)
-reach-strays _ parts new fd h fits e = cc
+-- the work that is asked waits, and doesn't take it
+pub record IsUntaken (v : View) (i : Input) : Type 0 where
+  pub question : Ask
+  pub waits : step v.innermost v.pool ≡ Do.Wait (Asked question) v.innermost v.pool
+  pub untaken : taken v.innermost v.pool i ≡ None
 
-pub taken-strays : (now : Active) (parts : Parts) (i : Input) (fd : ℕ) → IsBetweenSteps now parts → is_none (misfit (asked_now now) i) ≡ true → taken_in parts.objects.pool i ≡ Some fd → strays_of (host_view now parts) (i ∷ []) ≡ true
-taken-strays (active.Reaching q) parts (input.Took new) fd b fits e = reach-strays q parts new fd b.whole fits e
-taken-strays (active.Turning t) parts (input.Took new) fd b fits e = absurd (turn-takes-not t.frame new (ap (λ (z : Option Ask). is_none (misfit z (input.Took new))) (sym b.ready.question) ∙ fits))
-taken-strays (active.Caller c) parts (input.Took new) fd b fits e = absurd (no c.stage c.ask b.whole.seated fits)
+reach-untaken : (q : Ask) (parts : Parts) (new fd : ℕ) → is_none (misfit (Some q) (input.Took new)) ≡ true → taken_in parts.objects.pool (input.Took new) ≡ Some fd
+    → IsUntaken (host_view (active.Reaching q) parts) (input.Took new)
+reach-untaken (ask.Accept listener) parts new fd fits e =
+    record { question = ask.Accept listener; waits = refl; untaken = opens-not (is_routine new) (is_open parts.objects.pool new) new fd (frame.Outside (Opening new)) e }
+reach-untaken _ parts new fd fits e = cc
+
+untaken-by : (now : Active) (parts : Parts) (i : Input) (fd : ℕ) → IsBetweenSteps now parts → is_none (misfit (asked_now now) i) ≡ true → taken_in parts.objects.pool i ≡ Some fd → IsUntaken (host_view now parts) i
+untaken-by (active.Reaching q) parts (input.Took new) fd b fits e = reach-untaken q parts new fd fits e
+untaken-by (active.Turning t) parts (input.Took new) fd b fits e = absurd (turn-takes-not t.frame new (ap (λ (z : Option Ask). is_none (misfit z (input.Took new))) (sym b.ready.question) ∙ fits))
+untaken-by (active.Caller c) parts (input.Took new) fd b fits e = absurd (no c.stage c.ask b.whole.seated fits)
   where
     no : (s : Stage) (q : Ask) → IsStacked (frame.Call (staged q s)) (below_in parts) → is_none (misfit (open_at s q) (input.Took new)) ≡ true → ⊥
     no stage.Asking (ask.Accept listener) seated fits = caller-kind (frame.Call (Asking (ask.Accept listener))) (ask.Accept listener) (below_in parts) refl seated
     no stage.Asking _ seated fits = cc
     no _ q seated fits = cc
-taken-strays _ parts (input.Took new) fd b fits e = cc
-taken-strays _ parts _ fd b fits e = cc
+untaken-by _ parts (input.Took new) fd b fits e = cc
+untaken-by _ parts _ fd b fits e = cc
+
+pub taken-strays : (now : Active) (parts : Parts) (i : Input) (fd : ℕ) → IsBetweenSteps now parts → is_none (misfit (asked_now now) i) ≡ true → taken_in parts.objects.pool i ≡ Some fd → strays_of (host_view now parts) (i ∷ []) ≡ true
+taken-strays now parts i fd b fits e =
+    let u = untaken-by now parts i fd b fits e in
+    let v : View = host_view now parts in
+    untaken-strays v (Asked u.question) v.innermost v.pool i b.whole u.waits u.untaken
+
+-- and nothing is seen after it
+pub taken-ends : (now : Active) (parts : Parts) (i : Input) (fd : ℕ) → IsBetweenSteps now parts → is_none (misfit (asked_now now) i) ≡ true → taken_in parts.objects.pool i ≡ Some fd
+    → (is : List Input) → sights_of (host_view now parts) (i ∷ is) ≡ sights_of (host_view now parts) []
+taken-ends now parts i fd b fits e is =
+    let u = untaken-by now parts i fd b fits e in
+    let v : View = host_view now parts in
+    stray-seen v (Asked u.question) v.innermost v.pool i is b.whole u.waits u.untaken ∙ sym (open-seen v (Asked u.question) v.innermost v.pool b.whole u.waits)

@@ -43,6 +43,7 @@ use Rattle.host_core.specs.declared.turn.Turn.{Turn}
 use Rattle.host_core.specs.declared.waiting.Waiting.{Waiting}
 use Rattle.host_core.specs.Callers.{frame_of, told_by, after_telling, open_at}
 use Rattle.tree_specs.specs.Texts.Schedule.{misfit}
+use Rattle.tree_stories.specs.Sights.{sights_of}
 use Rattle.host_core.specs.Moves.{call_of, reported}
 use Rattle.host_core.specs.Reaches.{IsOutside, is_bytes, outside_given}
 use Rattle.host_core.specs.Places.{HasPlaces, HasPlacesFor}
@@ -128,6 +129,7 @@ pub record TellsSameStory (v w : View) : Type 0 where
   pub rows : (R : ℕ) → length v.pool.rows + pending v.innermost ≤ R → length w.pool.rows + pending w.innermost ≤ R
   pub no_dearer : (R : ℕ) → length v.pool.rows + pending v.innermost ≤ R → cost R w.innermost w.below w.pool 0 ≤ cost R v.innermost v.below v.pool 0
   pub same : (is : List Input) → rest_of v is ≡ rest_of w is
+  pub seen : (is : List Input) → sights_of v is ≡ sights_of w is
   pub strays : (is : List Input) → strays_of v is ≡ strays_of w is
 
 -- The same, by at least one step.

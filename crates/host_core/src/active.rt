@@ -1,9 +1,9 @@
 //! What is at work in a host, above all that waits.
-ghost use Rattle.std.specs.Prelude.{◌≡◌, ◌↔◌, IsTrue, List, Some, is_none};
+ghost use Rattle.std.specs.Prelude.{◌≡◌, ◌↔◌, IsSome, IsTrue, List, Some, is_none};
 ghost use Rattle.tree_specs.specs.declared.question.Ask.TheVariants.{Quiet};
 ghost use Rattle.std.specs.Option.{option_copied};
 ghost use Rattle.tree_specs.specs.Texts.Schedule.{misfit};
-ghost use Rattle.host_core.specs.Hosts.{asked_now, view_of, speaking_view, IsSettled};
+ghost use Rattle.host_core.specs.Hosts.{asked_now, caller_asked, view_of, speaking_view, IsSettled};
 ghost use Rattle.host_core.specs.Requests.{work_speaks};
 ghost use Rattle.host_core.specs.Turns.{turn_speaks};
 ghost use Rattle.host_core.specs.declared.waiting.Waiting.{Waiting as WaitingData};
@@ -13,6 +13,7 @@ use crate::reach::takes;
 use crate::turn::Turn;
 use crate::work::Work;
 use object_pool::ObjectPool;
+use std::mem;
 use tree_specs::{Ask, Input, TurnFrame};
 
 /// What is at work, above all that waits.
@@ -53,6 +54,26 @@ fn work_speaks(work: Work, objects: &ObjectPool) -> bool
 }
 
 impl Active {
+    /// Takes it out of its place, where a free stands then: this is to be written over.
+    #[inline(always)]
+    pub fn take(&mut self) -> Active
+        ensures { result ≡ self.old }
+    {
+        mem::replace(self, Active::Freeing)
+    }
+
+    /// Takes out the question of the caller that was asked. What stays in its place is to be written over.
+    #[inline(always)]
+    pub fn take_ask(&mut self) -> Ask
+        requires { IsSome (caller_asked self.old) }
+        ensures { caller_asked self.old ≡ Some result }
+    {
+        match self.take() {
+            Active::Caller(Caller { ask, .. }) => ask,
+            _ => unreachable!(),
+        }
+    }
+
     /// The question that is open. None where none is.
     pub fn question(&self) -> Option<&Ask>
         ensures { option_copied result ≡ asked_now self.now }

@@ -113,6 +113,7 @@ impl Host {
     ghost use Rattle.tree_specs.specs.Calls.Refusals.{is_open};
     ghost use Rattle.tree_specs.specs.Events.Rotation.{wanted_of};
     ghost use Rattle.tree_specs.specs.Machine.View.{strays_of};
+    ghost use Rattle.tree_stories.specs.Sights.{sights_of};
     ghost use Rattle.host_core.specs.Promises.{Waits, NextLaw, TakesAnswer, TakesCall, taken_in, taken_by};
     ghost use Rattle.std.specs.Prelude.{List};
     ghost use Rattle.step_machine.specs.Machine.{items as told_by};
@@ -250,6 +251,7 @@ impl Host {
         ensures not_asked { (result ≡ Err OfferFault.NotAsked) ↔ (misfit (question_of self.now) input.now ≡ Some reasons.NotAsked) }
         ensures taken { (fd : ℕ) → (result ≡ Err (OfferFault.Taken fd)) ↔ (taken_by (question_of self.now) self.now.pool input.now ≡ Some fd) }
         ensures strays { (fd : ℕ) → result ≡ Err (OfferFault.Taken fd) → strays_of self.now (input.now ∷ []) ≡ true }
+        ensures ends { (fd : ℕ) → result ≡ Err (OfferFault.Taken fd) → (is : List InputData) → sights_of self.now (input.now ∷ is) ≡ sights_of self.now [] }
     {
         if !self.active.takes(input) {
             return Err(OfferFault::NotAsked);
@@ -288,8 +290,10 @@ impl Host {
         ensures err { OnErr result (self.new ≡ self.old) }
         ensures not_asked { (result ≡ Err OfferFault.NotAsked) ↔ (misfit (question_of self.old) input ≡ Some reasons.NotAsked) }
         ensures taken { (fd : ℕ) → (result ≡ Err (OfferFault.Taken fd)) ↔ (taken_by (question_of self.old) self.old.pool input ≡ Some fd) }
-        // An answer of a descriptor that is open is the one that doesn't fit, though it was asked for.
+        // An answer of a descriptor that is open is the one that doesn't fit, though it was asked for: nothing comes
+        // after it.
         ensures strays { (fd : ℕ) → result ≡ Err (OfferFault.Taken fd) → strays_of self.old (input ∷ []) ≡ true }
+        ensures ends { (fd : ℕ) → result ≡ Err (OfferFault.Taken fd) → (is : List InputData) → sights_of self.old (input ∷ is) ≡ sights_of self.old [] }
     {
         self.check(&input)?;
         self.take(input)?;

@@ -30,9 +30,8 @@ use crate::turn::Turn;
 use crate::turns::looked;
 use crate::waiting::Waiting;
 use crate::work::Work;
-use crate::works::{end, go_on, settle};
+use crate::works::{end, go_on, settle_on};
 use object_pool::ObjectPool;
-use std::mem;
 use tree_specs::{Act, Ask, Call, Input, Refusal, TurnFrame};
 
 /// Begins a turn for the host's own caller. A routine is refused one, since it may run in a turn itself.
@@ -133,17 +132,6 @@ fn reply_on(now: &mut Active, reply: ShortReply)
     }
 }
 
-/// Takes out the question of the caller that was asked. What stays in its place is to be written over.
-fn take_ask(now: &mut Active) -> Ask
-    requires { IsSome (caller_asked now.old) }
-    ensures { caller_asked now.old ≡ Some result }
-{
-    match mem::replace(now, Active::Freeing) {
-        Active::Caller(Caller { ask, .. }) => ask,
-        _ => unreachable!(),
-    }
-}
-
 /// Goes on with what a call does first, up to the next event or question.
 #[inline(always)]
 fn begin_on(now: &mut Active, motion: Motion, parts: &mut Parts)
@@ -153,9 +141,9 @@ fn begin_on(now: &mut Active, motion: Motion, parts: &mut Parts)
     ensures ready { IsBetweenSteps now.new parts.new }
     ensures settled { speaking_view (host_view now.new parts.new) ≡ true }
 {
-    let ask = take_ask(now);
-    *now = go_on(call_step(ask, motion), parts);
-    settle(now, parts);
+    let ask = now.take_ask();
+    let next = go_on(call_step(ask, motion), parts);
+    settle_on(now, next, parts);
 }
 
 /// Does a call for the caller that was asked, up to the next event or question. Where this is the reply it is given,
@@ -207,8 +195,8 @@ fn return_on(now: &mut Active, value: u32, parts: &mut Parts)
     ensures ready { IsBetweenSteps now.new parts.new }
     ensures settled { speaking_view (host_view now.new parts.new) ≡ true }
 {
-    *now = end(Answer::Returned(value), parts);
-    settle(now, parts);
+    let next = end(Answer::Returned(value), parts);
+    settle_on(now, next, parts);
 }
 
 /// Goes on with an answer that no caller gives, up to the next event or question.
@@ -220,9 +208,8 @@ fn hear(now: &mut Active, input: Input, parts: &mut Parts)
     ensures ready { IsBetweenSteps now.new parts.new }
     ensures settled { speaking_view (host_view now.new parts.new) ≡ true }
 {
-    let present = mem::replace(now, Active::Freeing);
-    *now = answered(present, input, parts);
-    settle(now, parts);
+    let next = answered(now.take(), input, parts);
+    settle_on(now, next, parts);
 }
 
 /// Lets whoever was asked go on with the answer, up to the next event or question. The answer takes no memory of its

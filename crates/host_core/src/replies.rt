@@ -18,7 +18,6 @@ use crate::parts::Parts;
 use crate::reach::{bytes_in, made_bytes};
 use crate::reports::made_report;
 use crate::waiting::Waiting;
-use std::mem;
 use tree_specs::{Ask, Input, Memory, Owner};
 
 /// A caller that was asked this is told a reply that owns memory, of which a routine remembers the copy.
@@ -38,10 +37,8 @@ fn report_on(now: &mut Active, report: OwnedReply)
     requires { IsSome (caller_asked now.old) }
     ensures { (q : AskData) → caller_asked now.old ≡ Some q → active_frame now.new ≡ frames.Call (Telling (remembers q report.copy) report.reply) }
 {
-    match mem::replace(now, Active::Freeing) {
-        Active::Caller(Caller { ask, .. }) => *now = told(ask, report),
-        _ => unreachable!(),
-    }
+    let ask = now.take_ask();
+    *now = told(ask, report);
 }
 
 /// Makes the report that an input asks for, which is about this owner, and lets it come next to the caller that was

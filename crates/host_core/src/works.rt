@@ -229,3 +229,15 @@ pub fn settle(now: &mut Active, parts: &mut Parts)
         _ => settle_works(now, parts),
     }
 }
+
+/// Puts this to work, and makes the steps that tell nothing, up to the next event or question.
+#[inline(always)]
+pub fn settle_on(now: &mut Active, next: Active, parts: &mut Parts)
+    requires { IsBetweenSteps next parts.old }
+    ensures along { TellsSameStory (host_view next parts.old) (host_view now.new parts.new) }
+    ensures ready { IsBetweenSteps now.new parts.new }
+    ensures settled { speaking_view (host_view now.new parts.new) ≡ true }
+{
+    *now = next;
+    settle(now, parts);
+}

@@ -4,7 +4,7 @@ use Rattle.std.proofs.KnownBytes.{Appends-nil}
 use Rattle.outside.specs.declared.output.PutError.TheVariants as put_errors
 use Rattle.tree_specs.specs.Texts.Load.{load_schedule}
 use Rattle.schedule_replay.specs.Runs.{WritesText, IsFrontOf}
-use Rattle.schedule_replay.proofs.SessionLaws.{not-begun}
+use Rattle.schedule_replay.proofs.WholeLaws.{not-begun}
 use Rattle.load_schedule.specs.Loads.{PutsFiveLines}
 
 -- a text that was written to nothing is all that is there

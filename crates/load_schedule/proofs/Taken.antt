@@ -20,16 +20,18 @@ use Rattle.tree_specs.specs.Words.Ranges.{is_sound_owner, is_sound_call}
 use Rattle.tree_specs.specs.Calls.Spelling.{Field, spelling}
 use Rattle.tree_specs.specs.Texts.Grammar.{input_of}
 use Rattle.tree_specs.specs.Texts.Text.{field_text, call_text, input_text, newline}
-use Rattle.tree_specs.specs.Texts.Schedule.{Line, lines, lines_of_parts, line_limit, lines_limit, Course, course, once_given, line_input, judged_from, judged_lines, judge, unless_stray, misfit, why_not, schedule_header}
+use Rattle.tree_specs.specs.Texts.Lines.{Line, lines, lines_of_parts, line_limit, lines_limit}
+use Rattle.tree_specs.specs.Texts.Runners.{Course, once_given, line_input, judged_from, judged_lines, unless_stray, why_not}
+use Rattle.tree_specs.specs.Texts.Schedule.{judge, misfit, mode_of, pool_header, pool_runner, pools}
 use Rattle.tree_specs.specs.Texts.Load.{Place, next_state, drawn, kind, makes_object, second_draw, owner_drawn, object_drawn, call_drawn, after_call, calls_from, calls_text, first_place, load_calls, load_schedule}
 use Rattle.tree_specs.proofs.Tree.Numbered.{by_test}
 use Rattle.text_forms.proofs.Numerals.{decimal_digits}
 use Rattle.text_forms.specs.Bytes.{has_bytes}
 use Rattle.text_forms.proofs.Bools.{and_true}
 use Rattle.text_forms.proofs.Calls as calls
-use Rattle.schedule_replay.specs.Replays.{has_no_lf, is_plain, ended_line}
-use Rattle.schedule_replay.proofs.LineLaws.{lines_ended, plain_append}
-use Rattle.schedule_replay.proofs.ReplayLaws.{input-fits}
+use Rattle.line_pieces.specs.Cuts.{has_no_lf, is_plain, ended_line}
+use Rattle.line_pieces.proofs.LineLaws.{lines_ended, plain_append}
+use Rattle.schedule_replay.proofs.RunLaws.{input-by}
 use Rattle.load_schedule.proofs.Bare.{is_calm}
 use Rattle.load_schedule.proofs.Silent.{AreCalls, story-awaits}
 
@@ -231,33 +233,33 @@ first-calls (inputs.Call c ∷ pre) post a = (a.0, a.1, first-calls pre post a.2
 first-calls (_ ∷ pre) post a = absurd a
 
 -- a call fits where one is waited for
-call-fits : (k : Course) (c : Call) → k.open_after [] ≡ Some Quiet → k.strays (inputs.Call c ∷ []) ≡ false → why_not k (inputs.Call c) ≡ None
+call-fits : (k : Course Input) (c : Call) → k.open_after [] ≡ Some Quiet → k.strays (inputs.Call c ∷ []) ≡ false → why_not pool_runner k (inputs.Call c) ≡ None
 call-fits k c asks taken =
     ap (λ (q : Option Ask). unless_stray (misfit q (inputs.Call c)) (k.strays (inputs.Call c ∷ []))) asks ∙ ap (unless_stray None) taken
 
 -- where each time the next call is waited for
-all-taken : (k : Course) (n : ℕ) (cs : List Call) → AllDrawn cs → ((pre post : List Input) → inputs_of_calls cs ≡ pre ++ post → (k.open_after pre ≡ Some Quiet) × (k.strays pre ≡ false)) → n + length cs ≤ suc lines_limit
-    → (judged_from k n (map (λ c. ended_line (line_of c)) cs)).refused ≡ None
+all-taken : (k : Course Input) (n : ℕ) (cs : List Call) → AllDrawn cs → ((pre post : List Input) → inputs_of_calls cs ≡ pre ++ post → (k.open_after pre ≡ Some Quiet) × (k.strays pre ≡ false)) → n + length cs ≤ suc lines_limit
+    → (judged_from pool_runner k n (map (λ c. ended_line (line_of c)) cs)).refused ≡ None
 unfolding judged_from
 all-taken k n [] d awaits few = refl
 all-taken k n (c ∷ cs) d awaits few =
-    let fits : line_input n k (ended_line (line_of c)) ≡ Ok (inputs.Call c) =
-    input-fits n k (line_of c) (inputs.Call c) (line-short c d.0) (omega arith) (line-again c d.0)
+    let fits : line_input pool_runner n k (ended_line (line_of c)) ≡ Ok (inputs.Call c) =
+    input-by pool_runner k n (line_of c) (inputs.Call c) None (line-short c d.0) (omega arith) (line-again c d.0)
     (call-fits k c (awaits [] (inputs_of_calls (c ∷ cs)) refl).0 (awaits (inputs.Call c ∷ []) (inputs_of_calls cs) refl).1) in
     rw fits (all-taken (once_given (inputs.Call c) k) (n + 1) cs d.1
     (λ pre post e. awaits (inputs.Call c ∷ pre) post (ap (λ (l : List Input). inputs.Call c ∷ l) e)) (omega arith))
 
-schedule-lines : (cs : List Call) → AllDrawn cs → lines (schedule_header ++ newline ++ calls_text cs) ≡ ended_line schedule_header ∷ map (λ c. ended_line (line_of c)) cs
+schedule-lines : (cs : List Call) → AllDrawn cs → lines (pool_header ++ newline ++ calls_text cs) ≡ ended_line pool_header ∷ map (λ c. ended_line (line_of c)) cs
 schedule-lines cs d =
-    ap lines (append_assoc schedule_header newline (calls_text cs)) ∙ lines_ended schedule_header (calls_text cs) refl
-    ∙ ap (λ (ls : List Line). ended_line schedule_header ∷ ls) (lines-of-calls cs d)
+    ap lines (append_assoc pool_header newline (calls_text cs)) ∙ lines_ended pool_header (calls_text cs) refl
+    ∙ ap (λ (ls : List Line). ended_line pool_header ∷ ls) (lines-of-calls cs d)
 
 pub load-taken : (number count : ℕ) → count + 2 ≤ lines_limit → judge (load_schedule number count) ≡ None
-unfolding judged_lines
+unfolding judged_lines mode_of
 load-taken number count few =
     let cs : List Call = load_calls number count in
     let d : AllDrawn cs = calls-drawn count (first_place number) in
-    ap (λ (ls : List Line). (judged_lines course ls).refused) (schedule-lines cs d)
-    ∙ all-taken course 2 cs d
+    ap (λ (ls : List Line). (judged_lines pools ls).refused) (schedule-lines cs d)
+    ∙ all-taken pool_runner.course 2 cs d
     (λ pre post e. story-awaits pre (first-calls pre post (subst AreCalls e (are-calls cs d))))
     (omega (arith, calls-counted count (first_place number)))

@@ -5,12 +5,11 @@ use Rattle.std.specs.List.{list_all}
 use Rattle.std.proofs.Math.Seq.{take-add}
 use Rattle.std.proofs.lemmas.List.{append_assoc, drop_at, length-take-le, take-take}
 use Rattle.tree_specs.specs.Texts.Text.{newline}
-use Rattle.tree_specs.specs.Texts.Schedule.{Line, lines, lines_of_parts}
+use Rattle.tree_specs.specs.Texts.Lines.{Line, lines, lines_of_parts}
 use Rattle.tree_specs.specs.Texts.Load.{begins_with, lines_with, last_line_with, five_lines}
 use Rattle.text_forms.proofs.Bools.{and_true}
-use Rattle.schedule_replay.specs.Replays.{has_no_lf, is_plain, ended_line}
-use Rattle.schedule_replay.proofs.LineLaws.{lines_ended, lines_last}
-use Rattle.schedule_replay.specs.Cuts.{EndsAt}
+use Rattle.line_pieces.specs.Cuts.{has_no_lf, is_plain, ended_line, EndsAt}
+use Rattle.line_pieces.proofs.LineLaws.{lines_ended, lines_last}
 use Rattle.load_schedule.specs.Tallies.{text_of, one_more, count_like, last_like, later_reply, Sums, five_of}
 
 -- ---- more lines

@@ -4,7 +4,7 @@ use Rattle.std.specs.List.{list_all}
 use Rattle.tree_specs.specs.Texts.Text.{newline}
 use Rattle.std.specs.Fmt.{decimal}
 use Rattle.tree_specs.specs.Texts.Load.{begins_with, named}
-use Rattle.schedule_replay.specs.Replays.{has_no_lf}
+use Rattle.line_pieces.specs.Cuts.{has_no_lf}
 
 -- ---- one line
 

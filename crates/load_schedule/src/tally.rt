@@ -4,12 +4,13 @@ ghost use Rattle.std.proofs.Common.{refl};
 ghost use Rattle.outside.specs.Causes.{HasCause};
 ghost use Rattle.outside.specs.Puts.{PutsTo, KeepsRoom, has_failed};
 ghost use Rattle.tree_specs.specs.Texts.Load.{five_lines, named};
-ghost use Rattle.schedule_replay.specs.Replays.{has_no_lf};
+ghost use Rattle.line_pieces.specs.Cuts.{has_no_lf};
 ghost use Rattle.load_schedule.specs.Tallies.{five_of, later_reply, noted};
 
-use crate::told::{Counts, line_end, reply_of, told_by};
+use crate::told::{Counts, reply_of, told_by};
 use http_server::Log;
 use itoa::Buffer;
+use line_pieces::line_end;
 use outside::{Put, Sink};
 use std::alloc::{AllocError, Global};
 use std::marker::Model;
@@ -108,7 +109,7 @@ pub struct Tally {
 
 impl Model for Tally {
     ghost use Rattle.std.specs.Prelude.{ℕ, List, ◌++◌, ◌≡◌, true};
-    ghost use Rattle.schedule_replay.specs.Replays.{has_no_lf};
+    ghost use Rattle.line_pieces.specs.Cuts.{has_no_lf};
     ghost use Rattle.load_schedule.specs.Tallies.{noted, Sums};
 
     ghost Value = { List ℕ };

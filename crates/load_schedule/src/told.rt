@@ -1,10 +1,9 @@
 //! What the lines of a transcript tell.
 ghost use Rattle.std.specs.Prelude.{◌≡◌, ◌<◌, ◌≤◌, ◌+◌, [], take, drop, length, codes, IfSome, if◌then◌else◌};
 ghost use Rattle.tree_specs.specs.Texts.Load.{begins_with};
-ghost use Rattle.schedule_replay.specs.Cuts.{EndsFirst};
 ghost use Rattle.load_schedule.specs.Tallies.{Sums, one_more as with_line};
 
-use memchr::memchr;
+use line_pieces::line_end;
 
 /// Whether the line is a reply, one that refuses too.
 fn is_reply(line: &[u8]) -> bool
@@ -77,13 +76,6 @@ pub(crate) fn reply_of(line: &[u8]) -> &[u8]
 {
     let len = if is_reply(line) { line.len() } else { 0 };
     &line[..len]
-}
-
-/// Where the first line of these bytes ends; None where none does.
-pub(crate) fn line_end(bytes: &[u8]) -> Option<usize>
-    ensures { EndsFirst bytes.now result }
-{
-    memchr(b'\n', bytes)
 }
 
 /// What the lines at the front of some bytes tell that end there.

@@ -1,10 +1,9 @@
-pub mod LineLaws
 pub mod TextLaws
+pub mod RunLaws
+pub mod PlayLaws
 pub mod Unanswered
-pub mod ReplayLaws
-pub mod StateLaws
-pub mod CallLaws
-pub mod ByteLaws
+pub mod HostLaws
 pub mod WholeLaws
+pub mod StageLaws
 pub mod SessionLaws
 pub mod StoryLaws

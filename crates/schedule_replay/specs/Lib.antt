@@ -1,9 +1,10 @@
 pub mod Replays
-pub mod Tellings
 pub mod Questions
-pub mod Readings
-pub mod States
+pub mod Standings
+pub mod Hosts
+pub mod Plays
+pub mod Starts
+pub mod Stages
 pub mod Passes
 pub mod Runs
 pub mod Stories
-pub mod Cuts

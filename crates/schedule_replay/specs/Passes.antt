@@ -1,36 +1,53 @@
 -- What the bytes of a schedule do to the sink of its replay.
-use Rattle.std.specs.Prelude.{ℕ, List, Option, Result, Err}
+use Rattle.std.specs.Prelude.{◌≡◌, ℕ, List, [], ◌++◌, Option, Some, None, Result, Ok, Err}
 use Rattle.std.specs.Io.KnownBytes.{Appends}
-use Rattle.schedule_replay.specs.declared.stop.Stop.{Stop}
-use Rattle.schedule_replay.specs.declared.stop.Stop.TheVariants as errors
 use Rattle.outside.specs.declared.output.PutError.{PutError}
 use Rattle.outside.specs.declared.output.PutError.TheVariants as put_errors
-use Rattle.schedule_replay.specs.Readings.{Reading, Takes, BreaksOff, Finishes, EndsFront}
+use Rattle.line_pieces.specs.Readings.{Reading, begun_by, from_line, found_now}
+use Rattle.schedule_replay.specs.declared.stage.Stage.{Stage}
+use Rattle.schedule_replay.specs.declared.stop.Stop.{Stop}
+use Rattle.schedule_replay.specs.declared.stop.Stop.TheVariants as errors
+use Rattle.schedule_replay.specs.Replays.{Replayed, with_front, BeginsText, StopsWith, EndsWith}
+use Rattle.schedule_replay.specs.Stages.{IsAtHeader, comes}
 
 abbrev pub stop_of_put : PutError → Stop
 stop_of_put put_errors.Write = errors.Write
 stop_of_put put_errors.Memory = errors.Memory
 
--- the reading with all that has been written of it
-abbrev pub with_text : List ℕ → Reading → Reading
-with_text text s = record s { text = text }
+-- It ended before its schedule did, and this text was written; after a write fault and without memory a prefix of all that is to be
+-- written.
+abbrev pub StopsPut : Stop → List ℕ → Replayed → Type 0
+StopsPut errors.Write text found = BeginsText text found.text
+StopsPut e text found = StopsWith e text found
+
+-- no byte of the schedule has come
+abbrev pub IsFresh : Reading Stage → Type 0
+IsFresh s = (first : Stage) × IsAtHeader first × (s ≡ begun_by first)
+
+-- The piece holds some whole lines, which were taken, and this was written of them; the rest has begun the next.
+pub record Passed (s : Reading Stage) (piece : List ℕ) (t : Reading Stage) (written : List ℕ) : Type 0 where
+  pub whole : List ℕ
+  pub cut : s.line ++ piece ≡ whole ++ t.line
+  pub goes_on : (bytes : List ℕ) → from_line comes s (whole ++ bytes) ≡ with_front written (from_line comes t bytes)
+  -- before the second line none was taken
+  pub begun : t.number ≡ 1 → (s.number ≡ 1) × (whole ≡ [])
+
+abbrev pub TakesPiece : Reading Stage → List ℕ → Reading Stage → List ℕ → Result (Unit {0}) Stop → Type 0
+TakesPiece s piece t written (Ok done) = Passed s piece t written
+TakesPiece s piece t written (Err e) = (bytes : List ℕ) → StopsPut e written (from_line comes s (s.line ++ (piece ++ bytes)))
 
 -- a piece was taken where this was written
-abbrev pub TakesPiece : Reading → List ℕ → Reading → Result (Unit {0}) Stop → Type 0
-TakesPiece s piece t (Err errors.Write) = BreaksOff s piece t
-TakesPiece s piece t r = Takes s piece t r
-
-pub record PassesPiece (s : Reading) (piece : List ℕ) (t : Reading) (held now : Option (List ℕ)) (result : Result (Unit {0}) Stop) : Type 0 where
+pub record PassesPiece (s : Reading Stage) (piece : List ℕ) (t : Reading Stage) (held now : Option (List ℕ)) (result : Result (Unit {0}) Stop) : Type 0 where
   pub written : List ℕ
   pub put : Appends held now written
-  pub taken : TakesPiece s piece (with_text written t) result
+  pub taken : TakesPiece s piece t written result
+
+abbrev pub TakesEnd : Reading Stage → List ℕ → Result (Unit {0}) Stop → Type 0
+TakesEnd s written (Ok done) = EndsWith written (found_now comes s)
+TakesEnd s written (Err e) = StopsPut e written (found_now comes s)
 
 -- the end was taken where this was written
-abbrev pub TakesEnd : Reading → Reading → Result (Unit {0}) Stop → Type 0
-TakesEnd s t (Err errors.Write) = EndsFront s t
-TakesEnd s t r = Finishes s t r
-
-pub record PassesEnd (s : Reading) (held now : Option (List ℕ)) (result : Result (Unit {0}) Stop) : Type 0 where
+pub record PassesEnd (s : Reading Stage) (held now : Option (List ℕ)) (result : Result (Unit {0}) Stop) : Type 0 where
   pub written : List ℕ
   pub put : Appends held now written
-  pub taken : TakesEnd s (with_text written s) result
+  pub taken : TakesEnd s written result

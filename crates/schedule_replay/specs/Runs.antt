@@ -5,11 +5,11 @@ use Rattle.tree_specs.specs.declared.question.Ask.{Ask}
 use Rattle.tree_specs.specs.declared.schedule.Reason.{Reason}
 use Rattle.tree_specs.specs.Texts.Text.{end_text}
 use Rattle.tree_specs.specs.Texts.Schedule.{judge, transcript_of}
+use Rattle.line_pieces.specs.Cuts.{has_no_lf}
 use Rattle.schedule_replay.specs.declared.ran.Ran.{Ran}
 use Rattle.schedule_replay.specs.declared.ran.Ran.TheVariants as rans
 use Rattle.schedule_replay.specs.declared.stop.Stop.{Stop}
 use Rattle.schedule_replay.specs.declared.stop.Stop.TheVariants as errors
-use Rattle.schedule_replay.specs.Replays.{has_no_lf}
 
 -- what an outcome is called outside
 abbrev pub ran_of : Result (Unit {0}) Stop → Ran

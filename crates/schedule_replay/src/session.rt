@@ -3,66 +3,71 @@ ghost use Rattle.std.specs.Prelude.{◌≡◌, ◌≢◌, ℕ, ◌≤◌, ◌+�
 ghost use Rattle.tree_specs.specs.Texts.Schedule.{judge};
 ghost use Rattle.outside.specs.Causes.{Rose, Counts};
 ghost use Rattle.outside.specs.Outputs.{PutsAll};
-ghost use Rattle.schedule_replay.specs.Readings.{IsBetweenBytes, room_left, fresh};
-ghost use Rattle.schedule_replay.specs.States.{reading_of};
-ghost use Rattle.schedule_replay.specs.Passes.{PassesPiece, PassesEnd};
+ghost use Rattle.line_pieces.specs.Readings.{IsBetweenBytes, room_left};
+ghost use Rattle.line_pieces.specs.States.{reading_of};
+ghost use Rattle.schedule_replay.specs.Stages.{IsEmptied, ready, text_in};
+ghost use Rattle.schedule_replay.specs.Passes.{IsFresh, PassesPiece, PassesEnd};
 ghost use Rattle.schedule_replay.specs.Runs.{Replays, ran_of};
 ghost use Rattle.schedule_replay.specs.Stories.{WritesStory};
 ghost use Rattle.tree_specs.specs.declared.schedule.Reason.{Reason};
 
 use crate::ran::{Ran, ending};
-use crate::reading::Replay;
+use crate::stage::Stage;
 use crate::stop::Stop;
+use line_pieces::LineReader;
 use outside::{Got, PutError, Sink, Source, put_all};
 use std::alloc::Global;
 
 /// Writes what is to be written next. At an error a prefix of it is written.
-fn put_text<K: Sink>(replay: &mut Replay, out: &mut K) -> Result<(), PutError>
-    ensures bytes { PutsAll (K.held out.old) (K.held out.new) result replay.old.text.items }
+fn put_text<K: Sink>(stage: &mut Stage, out: &mut K) -> Result<(), PutError>
+    ensures bytes { PutsAll (K.held out.old) (K.held out.new) result (text_in stage.old) }
     ensures cause { Counts (K.faults out.old) (K.faults out.new) (result ≡ Err PutError.Write) }
-    ensures emptied { OnOk result (replay.new.text.items ≡ []) }
-    ensures host { replay.new.host ≡ replay.old.host }
-    ensures number { replay.new.number ≡ replay.old.number }
-    ensures line { replay.new.line ≡ replay.old.line }
+    ensures emptied { OnOk result (IsEmptied stage.old stage.new) }
 {
-    put_all(out, &replay.text)?;
-    replay.text.clear();
+    put_all(out, stage.text())?;
+    stage.clear_text();
     Ok(())
 }
 
 /// Takes the next bytes, and writes what comes of them, before an error too.
-fn take_piece<K: Sink>(replay: &mut Replay, piece: &[u8], out: &mut K) -> Result<(), Stop>
-    requires ready { IsBetweenBytes (reading_of replay.old) }
-    requires empty { replay.old.text.items ≡ [] }
-    ensures passed { PassesPiece (reading_of replay.old) piece.now (reading_of replay.new) (K.held out.old) (K.held out.new) result }
-    ensures ready { OnOk result (IsBetweenBytes (reading_of replay.new)) }
-    ensures empty { OnOk result (replay.new.text.items ≡ []) }
-    ensures progress { OnOk result (room_left (reading_of replay.new) + length piece.now ≤ room_left (reading_of replay.old)) }
+fn take_piece<K: Sink>(
+    reader: &mut LineReader<Stage>,
+    piece: &[u8],
+    out: &mut K,
+) -> Result<(), Stop>
+    requires ready { IsBetweenBytes ready (reading_of reader.old) }
+    ensures passed { PassesPiece (reading_of reader.old) piece.now (reading_of reader.new) (K.held out.old) (K.held out.new) result }
+    ensures ready { OnOk result (IsBetweenBytes ready (reading_of reader.new)) }
+    ensures empty { OnOk result (text_in reader.new.taker ≡ []) }
+    ensures progress { OnOk result (room_left (reading_of reader.new) + length piece.now ≤ room_left (reading_of reader.old)) }
     ensures cause { Counts (K.faults out.old) (K.faults out.new) (result ≡ Err Stop.Write) }
 {
-    let taken = replay.feed(piece);
-    put_text(replay, out)?;
+    let taken = reader.feed(piece);
+    put_text(&mut reader.taker, out)?;
     taken?;
     Ok(())
 }
 
 /// Takes the end of the schedule, and writes what comes of it, before an error too.
-fn take_end<K: Sink>(replay: &mut Replay, out: &mut K) -> Result<(), Stop>
-    requires ready { IsBetweenBytes (reading_of replay.old) }
-    requires empty { replay.old.text.items ≡ [] }
-    ensures passed { PassesEnd (reading_of replay.old) (K.held out.old) (K.held out.new) result }
+fn take_end<K: Sink>(reader: &mut LineReader<Stage>, out: &mut K) -> Result<(), Stop>
+    requires ready { IsBetweenBytes ready (reading_of reader.old) }
+    ensures passed { PassesEnd (reading_of reader.old) (K.held out.old) (K.held out.new) result }
     ensures cause { Counts (K.faults out.old) (K.faults out.new) (result ≡ Err Stop.Write) }
 {
-    let taken = replay.finish();
-    put_text(replay, out)?;
+    let taken = reader.finish();
+    put_text(&mut reader.taker, out)?;
     taken?;
     Ok(())
 }
 
-/// Reads a schedule to its end into a replay that begins, and writes its transcript.
-fn pass<S: Source, K: Sink>(replay: &mut Replay, input: &mut S, out: &mut K) -> Result<(), Stop>
-    requires fresh { reading_of replay.old ≡ fresh }
-    requires ready { IsBetweenBytes (reading_of replay.old) }
+/// Reads a schedule to its end, from its first byte on, and writes its transcript.
+fn pass<S: Source, K: Sink>(
+    reader: &mut LineReader<Stage>,
+    input: &mut S,
+    out: &mut K,
+) -> Result<(), Stop>
+    requires fresh { IsFresh (reading_of reader.old) }
+    requires ready { IsBetweenBytes ready (reading_of reader.old) }
     ensures replays { IfSome (S.left input.old) (λ bytes. Replays bytes (S.left input.new) (K.held out.old) (K.held out.new) (ran_of result)) }
     ensures reads { Counts (S.faults input.old) (S.faults input.new) (result ≡ Err Stop.Read) }
     ensures writes { Counts (K.faults out.old) (K.faults out.new) (result ≡ Err Stop.Write) }
@@ -70,8 +75,8 @@ fn pass<S: Source, K: Sink>(replay: &mut Replay, input: &mut S, out: &mut K) -> 
     let mut chunk = [0u8; 4096];
     'reads: loop {
         match input.read(&mut chunk) {
-            Got::Some(n) => take_piece(replay, &chunk[..n as usize], out)?,
-            Got::End => return take_end(replay, out),
+            Got::Some(n) => take_piece(reader, &chunk[..n as usize], out)?,
+            Got::End => return take_end(reader, out),
             Got::Failed => return Err(Stop::Read),
         }
     }
@@ -83,9 +88,9 @@ fn run<S: Source, K: Sink>(alloc: Global, input: &mut S, out: &mut K) -> Result<
     ensures reads { Counts (S.faults input.old) (S.faults input.new) (result ≡ Err Stop.Read) }
     ensures writes { Counts (K.faults out.old) (K.faults out.new) (result ≡ Err Stop.Write) }
 {
-    let mut replay = Replay::new(alloc)?;
-    let passed = pass(&mut replay, input, out);
-    drop(replay);
+    let mut reader = LineReader::new(alloc, Stage::Header(alloc));
+    let passed = pass(&mut reader, input, out);
+    drop(reader);
     passed
 }
 

@@ -1,28 +1,18 @@
-//! Telling the events of a host.
-ghost use Rattle.tree_specs.specs.Texts.Text.{event_text};
-ghost use Rattle.tree_specs.specs.Texts.Written.{Writes};
-ghost use Rattle.schedule_replay.specs.Tellings.{Tells};
+//! Telling what a machine tells.
+ghost use Rattle.schedule_replay.specs.Standings.{Tells};
 
-use host_core::Host;
-use schedule_text::write_event;
-use tree_specs::{Event, Memory};
+use crate::machine::Machine;
+use tree_specs::Memory;
 
-/// Writes the line of an event that was told.
-fn write_told(event: Event, text: &mut Vec<u8>) -> Result<(), Memory>
-    ensures { Writes text.old.items text.new.items result (event_text event) }
-{
-    write_event(&event, text)
-}
-
-/// Writes the lines of the events that come up to the next question.
+/// Writes the lines of what is told up to the next question.
 #[inline(never)]
-pub fn tell(host: &mut Host, text: &mut Vec<u8>) -> Result<(), Memory>
-    ensures { Tells host.old text.old.items host.new text.new.items result }
+pub fn tell<M: Machine>(machine: &mut M, text: &mut Vec<u8>) -> Result<(), Memory>
+    ensures { Tells (M.standing machine.old) text.old.items (M.standing machine.new) text.new.items result }
 {
-    while host.question().is_none()
-        && let Some(event) = host.next()
+    'tells: while machine.question().is_none()
+        && let Some(told) = machine.next()?
     {
-        write_told(event, text)?;
+        M::write(told, text)?;
     }
     Ok(())
 }

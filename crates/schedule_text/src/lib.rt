@@ -10,7 +10,6 @@ mod line_writer;
 mod moment;
 mod question;
 mod ready;
-mod refusal;
 mod reply;
 #[cfg(test)]
 mod tests;

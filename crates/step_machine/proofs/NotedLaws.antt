@@ -12,12 +12,12 @@ module _ {A P I T U : Type 0} (f : T → U) where
   map_items-tell t (Stray us) = refl
   map_items-tell t Short = refl
 
-  map_items-tells : (ts : List T) (o : Outcome A P I T) → map_items f (tells ts o) ≡ tells (map f ts) (map_items f o)
+  pub map_items-tells : (ts : List T) (o : Outcome A P I T) → map_items f (tells ts o) ≡ tells (map f ts) (map_items f o)
   map_items-tells [] o = refl
   map_items-tells (t ∷ ts) o = map_items-tell t (tells ts o) ∙ ap (tell (f t)) (map_items-tells ts o)
 
 module _ {A B P I T U : Type 0} (f : T → U) where
-  map_items-followed : (o : Outcome A P I T) (o' : Outcome A P I U) (k : A → P → List I → Outcome B P I T) (k' : A → P → List I → Outcome B P I U)
+  pub map_items-followed : (o : Outcome A P I T) (o' : Outcome A P I U) (k : A → P → List I → Outcome B P I T) (k' : A → P → List I → Outcome B P I U)
       → map_items f o ≡ o' → ((a : A) (p : P) (is : List I) → map_items f (k a p is) ≡ k' a p is) → map_items f (followed o k) ≡ followed o' k'
   map_items-followed o o' k k' e h = each o h ∙ ap (λ z. followed z k') e
     where

@@ -12,6 +12,7 @@ mod numbers;
 mod octets;
 mod piece;
 mod range;
+mod refusal;
 mod report_row;
 mod spelling;
 mod split;
@@ -29,5 +30,6 @@ pub use number::{read_length, read_number, read_positive, read_time, read_u32, w
 pub use numbers::write_numbers;
 pub use octets::{lend_bytes, read_octets, write_octets};
 pub use piece::write_pieces;
+pub use refusal::write_refusal;
 pub use report_row::write_report_rows;
 pub use split::{split_part, split_word};

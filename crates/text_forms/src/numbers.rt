@@ -37,9 +37,9 @@ fn write_each(numbers: &[u64], out: &mut Vec<u8>) -> Result<(), Memory>
     Ok(())
 }
 
-/// What follows the front: one function for all fronts.
+/// Appends each number with a space before it, and then an end: one function for whatever stands in front.
 #[inline(never)]
-fn write_rest(numbers: &[u64], end: &[u8], out: &mut Vec<u8>) -> Result<(), Memory>
+pub(crate) fn write_rest(numbers: &[u64], end: &[u8], out: &mut Vec<u8>) -> Result<(), Memory>
     ensures { Writes out.old.items out.new.items result (numbers_text numbers.now ++ end.now) }
 {
     write_each(numbers, out)?;

@@ -6,6 +6,8 @@ use thiserror::Error;
 pub enum Mode {
     /// A host of its own, whose first object gets the number 1.
     Pool,
+    /// The line service, over such a host.
+    Service,
 }
 
 /// Why a line of a schedule was rejected. The reasons are tried in this order.

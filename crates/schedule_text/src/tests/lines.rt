@@ -237,9 +237,10 @@ fn reads_the_calls_of_what_is_below(rt: HostRuntime) -> Result<(), Fail> {
 #[test]
 fn reads_the_header(rt: HostRuntime) -> Result<(), Fail> {
     assert_eq!(rt; read_header(b"tv schedule 1 pool")?, Mode::Pool);
+    assert_eq!(rt; read_header(b"tv schedule 1 service")?, Mode::Service);
     let others = [
         b"".as_slice(),
-        b"tv schedule 1 service".as_slice(),
+        b"tv schedule 1 services".as_slice(),
         b"tv schedule 1 pool\n".as_slice(),
         b"tv schedule 1 pool ".as_slice(),
         b"tv schedule 1 poo".as_slice(),

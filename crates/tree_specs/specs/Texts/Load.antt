@@ -10,7 +10,8 @@ use Rattle.tree_specs.specs.declared.call.Call.TheVariants.{New, Free, Steal, Re
 use Rattle.tree_specs.specs.declared.question.Input.TheVariants as inputs
 use Rattle.tree_specs.specs.Words.Objects.{numbered_owner}
 use Rattle.tree_specs.specs.Texts.Text.{newline, input_text}
-use Rattle.tree_specs.specs.Texts.Schedule.{lines, schedule_header}
+use Rattle.tree_specs.specs.Texts.Lines.{lines}
+use Rattle.tree_specs.specs.Texts.Schedule.{pool_header}
 
 -- ---- draws
 
@@ -104,7 +105,7 @@ calls_text calls = flat_map (λ c. input_text (inputs.Call c)) calls
 
 -- the schedule as bytes
 abbrev pub load_schedule : ℕ → ℕ → List ℕ
-load_schedule number count = schedule_header ++ newline ++ calls_text (load_calls number count)
+load_schedule number count = pool_header ++ newline ++ calls_text (load_calls number count)
 
 -- ---- what is printed of a transcript
 

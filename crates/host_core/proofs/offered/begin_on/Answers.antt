@@ -8,8 +8,8 @@ use Rattle.host_core.proofs.Given.{call_leads}
 use Rattle.host_core.proofs.StepsSilently.{along-then}
 use Rattle.host_core.proofs.offered.begin_on.Goals as goal
 
-pub go_on-requires : goal.go_on-requires
-go_on-requires c =
+pub go_on-next-requires : goal.go_on-next-requires
+go_on-next-requires c =
     let p = c.args.parts.now in
     let k = c.requires.begins c.take_ask-ask.result c.take_ask-ask.ensures in
     let s = c.call_step.ensures in
@@ -22,5 +22,5 @@ returns-clause-along c = λ q call o e begins.
     let same = same-asked _ _ _ e c.take_ask-ask.ensures in
     let b = subst (λ (z : Ask). BeginsWith z call o c.args.motion p) same begins in
     let on = call_leads c.take_ask-ask.result call o c.args.motion p c.call_step.result b (s.step p.objects.pool) s.busy s.places (s.ready p.objects b.goes) (s.answers _ p.objects) in
-    subst (λ (z : Ask). TellsSameStory (called_view z (input.Call call) (with_objects o p)) (host_view c.settle.new.now c.settle.new.parts)) (sym same)
-    (along-then _ _ _ on.onward.along (along-then _ _ _ c.go_on.ensures.along c.settle.ensures.along))
+    subst (λ (z : Ask). TellsSameStory (called_view z (input.Call call) (with_objects o p)) (host_view c.settle_on.new.now c.settle_on.new.parts)) (sym same)
+    (along-then _ _ _ on.onward.along (along-then _ _ _ c.go_on-next.ensures.along c.settle_on.ensures.along))

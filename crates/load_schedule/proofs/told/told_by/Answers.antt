@@ -1,6 +1,6 @@
 use Rattle.std.proofs.Common.{◌≡◌, ◌<◌, ◌≤◌, ◌+◌, ◌-◌, length, take, drop, arith}
 use Rattle.std.proofs.lemmas.List.{take_rest, length-drop, length-take-le}
-use Rattle.schedule_replay.specs.Cuts.{EndsAt}
+use Rattle.line_pieces.specs.Cuts.{EndsAt}
 use Rattle.load_schedule.proofs.TallyLaws.{told-more, one-more-le, reply-within}
 use Rattle.load_schedule.proofs.told.told_by.Goals as goal
 

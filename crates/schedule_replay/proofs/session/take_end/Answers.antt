@@ -1,9 +1,9 @@
 use Rattle.std.proofs.lemmas.Result.{err_from_is_err_and}
-use Rattle.schedule_replay.specs.States.{reading_of}
+use Rattle.line_pieces.specs.States.{reading_of}
 use Rattle.schedule_replay.proofs.SessionLaws.{ends-cut}
 use Rattle.schedule_replay.proofs.session.take_end.Goals as goal
 
 pub returns-in_err-put_text-clause-passed : goal.returns-in_err-put_text-clause-passed
 returns-in_err-put_text-clause-passed g c =
     let p = err_from_is_err_and c.from_residual.result c.from_residual.ensures.1 in
-    rw (p.1, p.2) (ends-cut (reading_of c.args.replay.now) (reading_of c.finish-taken.new.self) _ _ c.finish-taken.result c.in_err-put_text.field-0.0 c.requires.empty c.finish-taken.ensures.finished c.in_err-put_text.ensures.bytes)
+    rw (p.1, p.2) (ends-cut (reading_of c.args.reader.now) c.finish-taken.new.self.taker _ _ c.finish-taken.result c.in_err-put_text.field-0.0 c.in_err-put_text.ensures.bytes c.finish-taken.ensures)

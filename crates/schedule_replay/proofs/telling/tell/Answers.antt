@@ -1,16 +1,10 @@
-use Rattle.std.proofs.Common.{length, ap, arith, []}
 use Rattle.std.proofs.lemmas.Result.{err_from_is_err_and}
-use Rattle.schedule_replay.proofs.TextLaws.{told-more, told-front}
+use Rattle.schedule_replay.proofs.RunLaws.{told-front}
 use Rattle.schedule_replay.proofs.telling.tell.Goals as goal
 
-pub loop-host-smaller : goal.loop-host-smaller
-loop-host-smaller c = let e = ap length (c.in-Some.ensures.1 []) in omega (arith, e)
-
-pub loop-host-preserved : goal.loop-host-preserved
-loop-host-preserved c =
-    told-more _ _ _ _ _ _ c.in-Some.event c.loop-host.invariant c.in-Some.ensures.1 c.in-Some.ensures.2 c.in_ok-write_told.ensures
-
-pub returns-in_err-write_told : goal.returns-in_err-write_told
-returns-in_err-write_told c =
-    let p = err_from_is_err_and c.from_residual.result c.from_residual.ensures.1 in
-    rw p.1 (told-front _ _ _ _ _ _ c.in-Some.event c.loop-host.invariant c.in-Some.ensures.1 c.in_err-write_told.ensures)
+pub returns-in_err-write : goal.returns-in_err-write
+returns-in_err-write g c =
+    let p = err_from_is_err_and c.from_residual-in_err-write.result c.from_residual-in_err-write.ensures.1 in
+    let next = rw c.in-Some.is at c.in_ok-told.ensures in
+    rw p.1 (told-front (g.M.Machine.standing c.args.machine.now) (g.M.Machine.standing c.tells.machine) (g.M.Machine.standing c.next.new.self) c.args.text.now.items c.tells.text.items c.write.new.text.items (g.M.Machine.text_of c.in-Some.told)
+    c.tells.invariant next.0 c.in_err-write.ensures)

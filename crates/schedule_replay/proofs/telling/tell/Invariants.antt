@@ -1,11 +1,10 @@
-use Rattle.std.proofs.Common.{[], length}
-use Rattle.tree_specs.specs.Machine.View.{rest_of}
-use Rattle.schedule_replay.proofs.TextLaws.{ToldSoFar}
+use Rattle.schedule_replay.specs.Standings.{Standing}
+use Rattle.schedule_replay.proofs.RunLaws.{ToldSoFar}
 use Rattle.schedule_replay.proofs.telling.tell.Given as goal
 
-abbrev pub invariant-loop-host : goal.invariant-loop-host
-invariant-loop-host l = ToldSoFar l.initial.host l.initial.text.items l.host l.text.items
+abbrev pub invariant-tells : goal.invariant-tells
+invariant-tells g l = ToldSoFar (g.M.Machine.standing l.initial.machine) l.initial.text.items (g.M.Machine.standing l.machine) l.text.items
 
--- the events up to the next question
-abbrev pub decreases-loop-host : goal.decreases-loop-host
-decreases-loop-host l = length (rest_of l.host [])
+-- what is told up to the next question
+abbrev pub decreases-tells : goal.decreases-tells
+decreases-tells g l = (g.M.Machine.standing l.machine).left

@@ -1,6 +1,6 @@
 use Rattle.std.proofs.Common.{rules, ◌≡◌, ◌∙◌, ap, ℕ, ◌+◌, List, ◌∷◌, ◌++◌, []}
-use Rattle.schedule_replay.specs.Replays.{has_no_lf}
-use Rattle.schedule_replay.proofs.LineLaws.{plain_append}
+use Rattle.line_pieces.specs.Cuts.{has_no_lf}
+use Rattle.line_pieces.proofs.LineLaws.{plain_append}
 use Rattle.load_schedule.specs.Tallies.{noted, later_reply}
 use Rattle.load_schedule.proofs.TallyLaws.{sums-end}
 use Rattle.load_schedule.proofs.tally.Tally.end_line.Goals as goal

@@ -1,0 +1,4 @@
+pub mod Cuts
+pub mod Takings
+pub mod Readings
+pub mod States

@@ -1,0 +1,10 @@
+pub mod Driving
+pub mod More
+pub mod Allowing
+pub mod Listening
+pub mod LeavingOut
+pub mod Logging
+pub mod SeenLaws
+pub mod Telling
+pub mod Kept
+pub mod Together

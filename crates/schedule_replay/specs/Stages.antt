@@ -1,0 +1,54 @@
+-- A schedule that is read: its first line is still to come, or what that line says runs the others.
+use Rattle.std.specs.Prelude.{◌≡◌, ℕ, List, [], Result, Ok, Err}
+use Rattle.tree_specs.specs.Machine.View.{View}
+use Rattle.tree_specs.specs.Texts.Grammar.{input_of}
+use Rattle.tree_specs.specs.Texts.Lines.{Line}
+use Rattle.tree_specs.specs.Texts.Runners.{judged_lines, transcript_lines}
+use Rattle.tree_specs.specs.Texts.Schedule.{misfit, pools}
+use Rattle.schedule_replay.specs.declared.play.Play.{Play}
+use Rattle.schedule_replay.specs.declared.stage.Stage.{Stage}
+use Rattle.schedule_replay.specs.declared.stage.Stage.TheVariants.{Header, Pool}
+use Rattle.schedule_replay.specs.declared.stop.Stop.{Stop}
+use Rattle.schedule_replay.specs.Hosts.{host_standing}
+use Rattle.schedule_replay.specs.Plays.{comes as play_comes}
+use Rattle.schedule_replay.specs.Replays.{Replayed, with_front, StopsWith, EndsWith}
+use Rattle.schedule_replay.specs.Standings.{Waits}
+use Rattle.schedule_replay.specs.Starts.{PlaysAfter}
+
+-- all lines, the first one too
+abbrev pub replayed_all : List Line → Replayed
+replayed_all ls = record { text = transcript_lines pools ls; refused = (judged_lines pools ls).refused }
+
+abbrev pub IsAtHeader : Stage → Type 0
+IsAtHeader (Header alloc) = Unit {0}
+IsAtHeader (Pool play) = ⊥
+
+abbrev pub comes : Stage → ℕ → List Line → Replayed
+comes (Header alloc) n ls = replayed_all ls
+comes (Pool play) n ls = play_comes input_of misfit host_standing play n ls
+
+-- what is to be written next
+abbrev pub text_in : Stage → List ℕ
+text_in (Header alloc) = []
+text_in (Pool play) = play.text.items
+
+abbrev pub ready : Stage → ℕ → Type 0
+ready (Header alloc) n = n ≡ 1
+ready (Pool play) n = Waits (host_standing play.machine)
+
+abbrev pub stops : Stop → Stage → Replayed → Type 0
+stops e s found = StopsWith e (text_in s) found
+
+abbrev pub ends : Stage → Replayed → Type 0
+ends s found = EndsWith (text_in s) found
+
+-- What was to be written is no more, and else all is as it was.
+pub record IsEmptied (s t : Stage) : Type 0 where
+  pub empty : text_in t ≡ []
+  pub goes_on : (n : ℕ) (ls : List Line) → comes s n ls ≡ with_front (text_in s) (comes t n ls)
+  pub waits : (n : ℕ) → ready s n → ready t n
+
+-- The first line was taken, or is refused, or there was no memory.
+abbrev pub TakesHeader : List ℕ → Stage → Stage → Result (Unit {0}) Stop → Type 0
+TakesHeader line s t (Ok done) = (play : Play View) × (t ≡ Pool play) × PlaysAfter line (Ok play)
+TakesHeader line s t (Err e) = (t ≡ s) × PlaysAfter line (Err e)

@@ -1,0 +1,12 @@
+pub mod Lines
+pub mod Knowledge
+pub mod Naming
+pub mod Answers
+pub mod Tasks
+pub mod Routines
+pub mod Service
+pub mod Examples
+pub mod Leaving
+pub mod Schedules
+pub mod Sent
+pub mod Stations

@@ -1,0 +1,41 @@
+//! Laws of the service's story, each the clause of a function that does nothing.
+ghost use Rattle.std.specs.Prelude.{◌≡◌, ◌∷◌, ℕ, List, Some};
+ghost use Rattle.step_machine.specs.Open.{LastIs};
+ghost use Rattle.machine_driver.specs.Driver.{driven};
+ghost use Rattle.tree_specs.specs.declared.question.Input.{Input as InputData};
+ghost use Rattle.tree_specs.specs.Promises.Orderly.{Orderly};
+ghost use Rattle.tree_specs.specs.Promises.Grounded.{Grounded};
+ghost use Rattle.tree_specs.specs.Rules.Items.{Item, IsQuestion};
+ghost use Rattle.tree_specs.specs.Rules.Story.{story};
+ghost use Rattle.tree_specs.specs.declared.schedule.Mode.TheVariants.{Pool};
+ghost use Rattle.tree_specs.specs.Texts.Lines.{Line};
+ghost use Rattle.tree_specs.specs.Texts.Runners.{judged_lines, transcript_lines};
+ghost use Rattle.tree_specs.specs.Texts.Schedule.{mode_of, pools};
+ghost use Rattle.service_rules.specs.Knowledge.{nothing_known};
+ghost use Rattle.service_rules.specs.Schedules.{runner_of};
+ghost use Rattle.service_rules.specs.Service.{inputs_behind, machine, service_story, station};
+
+/// What the outside sees is orderly, whatever it answers.
+pub fn every_service_story_is_orderly()
+    ensures story { (is : List InputData) → Orderly (service_story is) }
+    ensures allowed { (n : ℕ) (is : List InputData) (us : List Item) → driven station n nothing_known machine is ≡ Some us → Orderly us }
+{}
+
+/// What the outside sees ends with the question that it is asked, as soon as so many answers are allowed that it is there:
+/// whatever the service answers itself fits.
+pub fn every_service_story_ends_with_its_question()
+    ensures allowed { (n : ℕ) (is : List InputData) (us : List Item) → driven station n nothing_known machine is ≡ Some us → LastIs IsQuestion us }
+    ensures story { (is js : List InputData) → inputs_behind is ≡ Some js → LastIs IsQuestion (service_story is) }
+{}
+
+/// The story of the machine behind the service is grounded.
+pub fn the_story_behind_is_grounded()
+    ensures { (is js : List InputData) → inputs_behind is ≡ Some js → Grounded (story 1 js) js }
+{}
+
+/// A schedule whose first line is a pool's header is judged as it is where no service runs schedules, and gives the same
+/// transcript.
+pub fn pool_schedules_are_judged_as_before()
+    ensures judged { (first : Line) (rest : List Line) → mode_of first.text ≡ Some Pool → judged_lines runner_of (first ∷ rest) ≡ judged_lines pools (first ∷ rest) }
+    ensures transcript { (first : Line) (rest : List Line) → mode_of first.text ≡ Some Pool → transcript_lines runner_of (first ∷ rest) ≡ transcript_lines pools (first ∷ rest) }
+{}
