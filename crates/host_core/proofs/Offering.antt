@@ -54,10 +54,11 @@ use Rattle.host_core.specs.Promises.{Waits, TakesAnswer, taken_in}
 use Rattle.machine_driver.specs.Seen.{sight}
 use Rattle.tree_stories.specs.Sights.{Sight, sights_of}
 use Rattle.tree_stories.proofs.Seeing.{question-seen}
+use Rattle.tree_stories.proofs.Strays.{question-strays}
 use Rattle.host_core.specs.Reaches.{outside_given, IsOutside}
 use Rattle.host_core.specs.Turns.{turn_asks, turn_given, frame_ready}
 use Rattle.host_core.specs.Hosts.{host_view, below_in, given_view, called_view, speaking_view, caller_asked, asked_now, begins_with, PartsReady, IsBetweenSteps, IsActing, TellsSameStory, IsReplyOf, IsCopy, IsReport}
-use Rattle.host_core.proofs.StepsSilently.{onward, question-strays, waits-at, waits-asked, always-more}
+use Rattle.host_core.proofs.StepsSilently.{onward, waits-at, waits-asked, always-more}
 use Rattle.host_core.proofs.Answering.{IsForCaller, caller-kind, turn-acts-not, outside-acts-not}
 use Rattle.host_core.proofs.Reaching.{outside-answered, no-reason}
 use Rattle.host_core.proofs.Speaking.{question_seen}
@@ -335,9 +336,15 @@ pub waits-some : {R : Type 0} (v : R → Ask) (lent : Option R) (now : Active) (
 waits-some v None now parts h e s = cc
 waits-some v (Some r) now parts h e s = waits-now now parts (v r) (sym e) h
 
+-- what waits for the outside has asked it what the outside is asked
+asks-outside : (now : Active) (objects : Objects) → PartsReady now objects → (q : Ask) → active_frame now ≡ frame.Outside (Reaching q) → IsOutside q
+asks-outside (active.Reaching asked) objects ready q e = let e' : asked ≡ q = cc in subst IsOutside e' ready
+asks-outside _ objects ready q e = cc
+
 -- the answer was taken, and the story goes on after the steps that tell nothing
-pub takes-answer : (v : View) (now : Active) (parts : Parts) (i : Input) (q : Ask) (w w' : View) → IsBetweenSteps now parts → speaking_view (host_view now parts) ≡ true → host_view now parts ≡ v → Offered now parts i q w → TellsSameStory w w' → TakesAnswer v i w'
-takes-answer v now parts i q w w' b s e o a = record {
+pub takes-answer : (v : View) (now : Active) (parts : Parts) (i : Input) (q : Ask) (w : View) (next : Active) (after : Parts) → IsBetweenSteps now parts → speaking_view (host_view now parts) ≡ true → host_view now parts ≡ v → Offered now parts i q w
+    → TellsSameStory w (host_view next after) → IsBetweenSteps next after → TakesAnswer v i (host_view next after)
+takes-answer v now parts i q w next after b s e o a ready = let w' : View = host_view next after in record {
   question = q;
   open_before = question-view v now parts b s e ∙ o.open_before;
   fits = ap (λ (z : Option Ask). misfit z i) (question-view v now parts b s e) ∙ o.fits;
@@ -347,4 +354,6 @@ takes-answer v now parts i q w w' b s e o a = record {
       ∙ ap (λ (z : View). sight z.pool (Asked q) ∷ sights_of w' is) e;
   strays = λ is. ap (λ (z : View). strays_of z (i ∷ is)) (sym e) ∙ o.strays is ∙ a.strays is;
   more = λ is. always-more w' is a.whole;
+  whole = a.whole;
+  outside = λ asked reaches. asks-outside next after.objects ready.ready asked reaches;
 }

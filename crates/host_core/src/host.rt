@@ -304,6 +304,7 @@ impl Host {
     /// the caller is asked again; otherwise `next` gives what comes. It is the same as to offer the call and to take
     /// the reply, for less. All memory up to the next question is taken first, and where it runs out the host is as it
     /// was.
+    #[inline(always)]
     pub fn call(&mut self, call: Call) -> Result<Option<Reply>, Memory>
         requires asked { question_of self.old ≡ Some Quiet }
         requires sound { IsTrue (is_sound_call call) }

@@ -15,6 +15,8 @@ use Rattle.host_core.specs.Promises.{RepliesAtOnce, TakesAnswer}
 use Rattle.service_rules.specs.declared.order.Order.{Order}
 use Rattle.service_rules.specs.declared.order.Order.TheVariants as order
 use Rattle.service_rules.specs.declared.task.Task.{Task}
+use Rattle.service_rules.specs.Knowledge.{resting_call}
+use Rattle.service_rules.specs.Knowledge.Setup.{Nothing, Unwatched}
 use Rattle.service_rules.specs.Lines.{is_served}
 use Rattle.service_rules.specs.Naming.{stranger_in}
 use Rattle.service_rules.specs.Service.{first_of_outside}
@@ -56,6 +58,12 @@ pub record SetsUp (old : View) (c : Call) (new : View) : Type 0 where
   pub asked : question_of old ≡ Some ask.Quiet
   pub reply : Reply
   pub done : RepliesAtOnce old c reply new
+
+-- the two calls were done that set a service up
+pub record IsSetUp (old new : View) : Type 0 where
+  pub between : View
+  pub service : SetsUp old (resting_call Nothing) between
+  pub listener : SetsUp between (resting_call Unwatched) new
 
 -- an answer of the outside was prepared: what it does to the runs, and how many answers are left then
 pub record IsPrepared (asked : Option Ask) (i : Input) (n : ℕ) (c : Change) (m : ℕ) : Type 0 where

@@ -3,8 +3,11 @@
 #![tactic(auto)]
 
 mod answerer;
+mod giving;
 mod naming;
 mod runs;
 mod station;
+mod tasks;
+mod telling;
 
 pub use station::Station;

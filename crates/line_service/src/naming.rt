@@ -2,8 +2,10 @@
 ghost use Rattle.std.specs.Prelude.{◌≡◌, Some, None, true};
 ghost use Rattle.service_rules.specs.Lines.{is_served};
 ghost use Rattle.service_rules.specs.Naming as rules;
+ghost use Rattle.line_service.specs.Steps.{IsServed, strange_in};
 
 use host_core::Host;
+use service_rules::Order;
 use tree_specs::{Call, Kind, Obj, Owner};
 
 /// Whether an object is a plain one.
@@ -53,7 +55,7 @@ fn strange_pair(host: &Host, session: Obj, owner: Owner, x: Obj) -> Option<Obj>
 
 /// The first object that the call of a line names and the line may not name. The numbers are tried in the order in which
 /// they stand in the line.
-pub fn stranger_in(host: &Host, session: Obj, call: &Call) -> Option<Obj>
+fn stranger_in(host: &Host, session: Obj, call: &Call) -> Option<Obj>
     requires { is_served call.now ≡ true }
     ensures { result ≡ rules.stranger_in host.now.pool session call.now }
 {
@@ -66,5 +68,16 @@ pub fn stranger_in(host: &Host, session: Obj, call: &Call) -> Option<Obj>
             stranger(host, session, *x)
         }
         _ => None,
+    }
+}
+
+/// The first object that a line names and may not name.
+pub fn strange_name(host: &Host, session: Obj, order: &Order) -> Option<Obj>
+    requires { IsServed order.now }
+    ensures { result ≡ strange_in host.now.pool session order.now }
+{
+    match order {
+        Order::Call(call) => stranger_in(host, session, call),
+        Order::Sleep(_) | Order::Job(_) => None,
     }
 }
