@@ -27,7 +27,7 @@ use Rattle.tree_specs.proofs.Turns.Falls.{Well, lower, falls}
 use Rattle.tree_specs.proofs.Rules.Rest.{most, well, event-whole, event-items, open-law, open-items, begins-items, ends-asked, silent-whole, silent-law, no-end, view_of_state}
 use Rattle.machine_driver.specs.Seen.{sight}
 use Rattle.tree_stories.specs.Sights.{Sight, sights_of}
-use Rattle.tree_stories.proofs.Seeing.{event-seen, silent-seen, begins-seen}
+use Rattle.tree_stories.proofs.Seeing.{event-seen, silent-seen, begins-seen, open-seen}
 use Rattle.tree_stories.proofs.Strays.{event-strays, silent-strays}
 use Rattle.host_core.specs.Promises.{Waits}
 use Rattle.host_core.specs.Hosts.{speaks, moved, next_of, speaking_view, TellsSameStory, StepsSilently}
@@ -149,6 +149,7 @@ waits-at v q h e = record {
   last = open-items v (Asked q) v.innermost v.pool h e;
   begins = λ is. begins-items v (Asked q) v.innermost v.pool is h e;
   begins_seen = λ is. begins-seen v (Asked q) v.innermost v.pool is h e;
+  last_seen = open-seen v (Asked q) v.innermost v.pool h e;
   fits = ap is_stray (open-law v (Asked q) v.innermost v.pool h e);
 }
 

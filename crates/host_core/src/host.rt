@@ -243,9 +243,10 @@ impl Host {
         }
     }
 
-    /// Refuses an answer that may not be given: NotAsked comes exactly where no question is open or the open one takes
-    /// no such answer, and Taken exactly where the descriptor that was accepted is open already.
-    fn check(&self, input: &Input) -> Result<(), OfferFault>
+    /// Refuses an answer that may not be given, as `offer` does: NotAsked comes exactly where no question is open or the
+    /// open one takes no such answer, and Taken exactly where the descriptor that was accepted is open already. It takes
+    /// no memory.
+    pub fn check(&self, input: &Input) -> Result<(), OfferFault>
         ensures fits { OnOk result (misfit (question_of self.now) input.now ≡ None) }
         ensures unopened { OnOk result (taken_in self.now.pool input.now ≡ None) }
         ensures not_asked { (result ≡ Err OfferFault.NotAsked) ↔ (misfit (question_of self.now) input.now ≡ Some reasons.NotAsked) }

@@ -1,3 +1,4 @@
 mod Names
 mod Served
 mod Stepping
+mod Doing

@@ -13,7 +13,7 @@ use Rattle.service_rules.specs.Lines.{is_served, micros_of, waiting, acting, ord
 use Rattle.service_desk.specs.Fronts.{Asks, HasOrder}
 use Rattle.line_service.specs.Steps.{IsServed}
 
-AreServed : Option Order → Type 0
+abbrev AreServed : Option Order → Type 0
 AreServed None = Unit {0}
 AreServed (Some o) = IsServed o
 
@@ -52,7 +52,7 @@ order-served ws =
     (first-served (waiting (codes "sleep") Sleep ws) (waiting (codes "job") Job ws) (waiting-served (codes "sleep") Sleep (λ n. tt) ws) (waiting-served (codes "job") Job (λ n. tt) ws))
     (acting-served ws)
 
-tagged : (tag : ℕ) (o : Order) (t : Option ℕ) (r : Option Order) → AreServed r → (t >>= (λ n. r >>= (λ found. Some (n, found)))) ≡ Some (tag, o) → IsServed o
+tagged : (tag : ℕ) (o : Order) (t : Option ℕ) (r : Option Order) → AreServed r → ◌>>=◌ {B = ℕ × Order} t (λ n. ◌>>=◌ {B = ℕ × Order} r (λ found. Some (n, found))) ≡ Some (tag, o) → IsServed o
 tagged tag o None r h e = cc
 tagged tag o (Some t) None h e = cc
 tagged tag o (Some t) (Some found) h e = let same : (t, found) ≡ (tag, o) = cc in subst IsServed (ap (λ (pair : ℕ × Order). pair.1) same) h

@@ -10,8 +10,9 @@ use Rattle.tree_specs.specs.declared.object.Obj.{Obj}
 use Rattle.tree_specs.specs.Rules.Items.{Item}
 use Rattle.tree_specs.specs.Rules.Items.Item.{Told}
 use Rattle.tree_specs.specs.Tree.Pool.{Pool}
-use Rattle.tree_specs.specs.Machine.View.{View, question_of}
-use Rattle.host_core.specs.Promises.{RepliesAtOnce, TakesAnswer}
+use Rattle.tree_specs.specs.Machine.View.{View, question_of, strays_of}
+use Rattle.tree_stories.specs.Sights.{sights_of}
+use Rattle.host_core.specs.Promises.{RepliesAtOnce, TakesAnswer, Waits}
 use Rattle.service_rules.specs.declared.order.Order.{Order}
 use Rattle.service_rules.specs.declared.order.Order.TheVariants as order
 use Rattle.service_rules.specs.declared.task.Task.{Task}
@@ -24,8 +25,8 @@ use Rattle.service_rules.specs.Stations.{StationView, Shows, IsAsked}
 use Rattle.line_service.specs.declared.answerer.Answerer.{Answerer}
 use Rattle.line_service.specs.declared.answerer.Answerer.TheVariants as answerer
 use Rattle.line_service.specs.declared.runs.Change.{Change}
-use Rattle.line_service.specs.declared.station.Step.{Step}
-use Rattle.line_service.specs.declared.station.Step.TheVariants as step
+use Rattle.line_service.specs.declared.telling.Step.{Step}
+use Rattle.line_service.specs.declared.telling.Step.TheVariants as step
 use Rattle.line_service.specs.Runs.{change_of}
 
 -- one of the service's own routines is asked
@@ -71,6 +72,12 @@ pub record IsPrepared (asked : Option Ask) (i : Input) (n : ℕ) (c : Change) (m
   pub open_now : asked ≡ Some question
   pub change : c ≡ change_of question i
   pub more : m ≡ n + 4194303
+
+-- an answer was asked for, and yet is the one that doesn't fit: nothing comes after it
+pub record StraysAt (v : View) (i : Input) : Type 0 where
+  pub waits : Waits v
+  pub stray : strays_of v (i ∷ []) ≡ true
+  pub ends : (is : List Input) → sights_of v (i ∷ is) ≡ sights_of v []
 
 -- what is shown of an event
 abbrev pub IsShownBy : Step → List Item → Type 0

@@ -38,7 +38,7 @@ impl Answerer {
 }
 
 /// Who answers the question that is open.
-pub fn answerer(host: &Host) -> Answerer
+pub fn who_answers(host: &Host) -> Answerer
     requires { Waits host.now }
     ensures { (q : AskData) → question_of host.now ≡ Some q → result ≡ answerer_of q }
 {

@@ -1,10 +1,15 @@
 //! What an answer of the outside does to the runs of routines.
-ghost use Rattle.std.specs.Prelude.{◌≡◌, ◌↔◌, ◌<◌, ℕ, Err, IfOk, None, OnOk};
-ghost use Rattle.std.specs.Option.{option_copied};
+ghost use Rattle.std.specs.Prelude.{◌≡◌, ◌↔◌, ◌<◌, ℕ, Err, IfOk, None, OnOk, Some};
+ghost use Rattle.tree_specs.specs.declared.schedule.Reason.TheVariants as reasons;
+ghost use Rattle.tree_specs.specs.Machine.View.{question_of};
+ghost use Rattle.tree_specs.specs.Texts.Schedule.{misfit};
+ghost use Rattle.host_core.specs.Promises.{Waits, taken_by, taken_in};
+ghost use Rattle.service_rules.specs.Stations.{outside_question as outside_asked};
 ghost use Rattle.line_service.specs.Runs.{change_of, change_by, changed};
-ghost use Rattle.line_service.specs.Steps.{IsPrepared};
+ghost use Rattle.line_service.specs.Steps.{IsPrepared, StraysAt};
 
-use host_core::OfferFault;
+use crate::answerer::outside_question;
+use host_core::{Host, OfferFault};
 use service_desk::Desk;
 use tree_specs::{Act, Ask, Input};
 
@@ -47,21 +52,26 @@ impl Change {
 }
 
 /// What an answer of the outside does to the runs, and how many answers are left then. Memory for one more run is taken, as
-/// it may be one.
+/// it may be one. An answer that doesn't fit what the outside is asked is refused.
 pub fn prepare(
-    asked: Option<&Ask>,
+    host: &Host,
     input: &Input,
     left: u64,
     desk: &mut Desk,
 ) -> Result<(Change, u64), OfferFault>
-    ensures ok { IfOk result (λ r. IsPrepared (option_copied asked.entry) input.now left r.0 r.1) }
+    ensures ok { IfOk result (λ r. IsPrepared (outside_asked (question_of host.now)) input.now left r.0 r.1) }
+    ensures fits { OnOk result (misfit (outside_asked (question_of host.now)) input.now ≡ None) }
+    ensures unopened { OnOk result (taken_in host.now.pool input.now ≡ None) }
+    ensures waits { OnOk result (Waits host.now) }
     ensures room { OnOk result (0 < desk.new.spare) }
-    ensures not_asked { (result ≡ Err OfferFault.NotAsked) ↔ (option_copied asked.entry ≡ None) }
-    ensures not_taken { (fd : ℕ) → result ≡ Err (OfferFault.Taken fd) → ⊥ }
+    ensures not_asked { (result ≡ Err OfferFault.NotAsked) ↔ (misfit (outside_asked (question_of host.now)) input.now ≡ Some reasons.NotAsked) }
+    ensures taken { (fd : ℕ) → (result ≡ Err (OfferFault.Taken fd)) ↔ (taken_by (outside_asked (question_of host.now)) host.now.pool input.now ≡ Some fd) }
+    ensures strays { (fd : ℕ) → result ≡ Err (OfferFault.Taken fd) → StraysAt host.now input.now }
     ensures knowledge { desk.new.knowledge ≡ desk.old.knowledge }
     ensures due { desk.new.due ≡ desk.old.due }
 {
-    let ask = asked.ok_or(OfferFault::NotAsked)?;
+    let ask = outside_question(host).ok_or(OfferFault::NotAsked)?;
+    host.check(input)?;
     let left = left.checked_add(MORE_ANSWERS - 1).ok_or(OfferFault::Memory)?;
     desk.reserve_run()?;
     Ok((Change::of(ask, input), left))

@@ -4,11 +4,11 @@
 //! It goes on by small steps. An own routine that is asked has a task, which comes of the moment at which it is asked; once
 //! it is known it is due, until its call was taken. So a step that wants memory can be made again, and what comes is the
 //! same.
-ghost use Rattle.std.specs.Prelude.{◌≡◌, ◌↔◌, ℕ, IsSome, IsTrue, IfOk, Err, Some, None, OnOk, OnErr};
+ghost use Rattle.std.specs.Prelude.{◌≡◌, ◌↔◌, ℕ, IsSome, IsTrue, IfOk, Err, Some, None, OnOk, OnErr, true};
 ghost use Rattle.tree_specs.specs.Words.Ranges.{is_sound};
 ghost use Rattle.host_core.specs.Promises.{Waits};
 
-use crate::answerer::{Answerer, answerer, outside_question};
+use crate::answerer::{Answerer, outside_question, who_answers};
 use crate::giving::set_service_up;
 use crate::runs::{MORE_ANSWERS, note, prepare};
 use crate::telling::{Step, tell};
@@ -57,12 +57,17 @@ impl Station {
         ensures { IfOk result (λ station. Shows [] unborn station) }
     {
         let mut host = Host::new(alloc, 1)?;
-        set_service_up(&mut host)?;
-        Ok(Station {
-            host,
-            desk: Desk::new(alloc),
-            left: MORE_ANSWERS - 2,
-        })
+        match set_service_up(&mut host) {
+            Ok(()) => Ok(Station {
+                host,
+                desk: Desk::new(alloc),
+                left: MORE_ANSWERS - 2,
+            }),
+            Err(memory) => {
+                drop(host);
+                Err(memory)
+            }
+        }
     }
 
     /// Gives the descriptors that are watched for something, and what for, in the order in which a turn looks at them, in
@@ -95,8 +100,7 @@ impl Station {
         // An answer of a descriptor that is open is the one that doesn't fit, though it was asked for.
         ensures strays { (fd : ℕ) → result ≡ Err (OfferFault.Taken fd) → strays_to_come self.old (input ∷ []) ≡ true }
     {
-        let asked = outside_question(&self.host);
-        match prepare(asked, &input, self.left, &mut self.desk) {
+        match prepare(&self.host, &input, self.left, &mut self.desk) {
             Ok((change, left)) => {
                 self.host.offer(input)?;
                 self.left = left;
@@ -141,7 +145,7 @@ impl Station {
         ensures { StepLaw result self.old self.new }
     {
         let due = self.desk.due();
-        match answerer(&self.host) {
+        match who_answers(&self.host) {
             Answerer::Outside => Ok(Step::Asked),
             Answerer::Loop => {
                 self.begin_turn()?;

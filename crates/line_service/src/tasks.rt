@@ -95,7 +95,10 @@ impl Station {
         ensures { Shows [] self.old self.new }
     {
         match strange_name(&self.host, session, &order) {
-            Some(x) => self.desk.refuse_name(session, length, tag, x),
+            Some(x) => {
+                drop(order);
+                self.desk.refuse_name(session, length, tag, x)
+            }
             None => self.do_own_order(session, length, tag, order),
         }
     }
