@@ -8,10 +8,11 @@ const RETRIES: usize = 64;
 /// What a listener answers.
 #[derive(Drop)]
 pub(crate) enum Connecting {
+    /// The connection.
     Took(UnixStream),
     /// Nobody waits.
     Nobody,
-    /// The system has no descriptor left, or none of something else.
+    /// The system has no descriptor left, or too little of something else.
     Starved,
 }
 

@@ -23,10 +23,13 @@ use std::io::ErrorKind;
 use std::net::Net;
 use tree_specs::{Memory, Want};
 
-/// A link over non-blocking Unix sockets. It tells nothing of its calls.
+/// A link over non-blocking Unix sockets (unix(7)). It tells nothing of its calls.
 ///
 /// It opens nothing before it listens, and it listens once. The file that `listen` made is removed where the link is
 /// dropped or its descriptor 0 is closed. No other file ever is: one that stands at the path already fails `listen`.
+///
+/// The system reports once that a descriptor has become ready (EPOLLET of epoll(7)). It counts as ready from then on,
+/// until a call of it answers `Again`.
 #[derive(Drop)]
 pub struct MioLink<R: Files + Net + Clone + Drop> {
     runtime: R,
@@ -129,8 +132,8 @@ impl<R: Files + Net + Clone + Drop> Link for MioLink<R> {
 
     ghost is_open = { has_open };
 
-    /// It fails where anything is at the path already, where the path is longer than 107 bytes, and where the link
-    /// listens or has listened.
+    /// It fails where anything is at the path already, where the path is longer than the 107 bytes of unix(7), where no
+    /// file can be made there, and where the link listens or has listened.
     fn listen(&mut self, path: &str) -> Result<Done, Memory>
         ensures cause { HasCause (link_faults self.old) (link_faults self.new) (has_failed result) }
         ensures no_fault { OnErr result (link_faults self.new ≡ link_faults self.old) }
@@ -154,7 +157,8 @@ impl<R: Files + Net + Clone + Drop> Link for MioLink<R> {
 
     /// What has come is noted first, without waiting, so that no descriptor is kept from its turn by another one that
     /// is always ready. Then the first that is ready, in the order of `wants`, is left in `ready`, and no other: a turn
-    /// takes the first of its rotation that is ready.
+    /// takes the first of its rotation that is ready. The system counts in milliseconds, so a wait of less takes one,
+    /// and the longest is 24 days. A signal ends a wait with nothing ready.
     fn wait(&mut self, wants: &[Want], limit: u64, ready: &mut Vec<Want>) -> Result<Done, Memory>
         ensures ready { AreReady wants.now ready.new.items }
         ensures cause { HasCause (link_faults self.old) (link_faults self.new) (has_failed result) }
@@ -175,8 +179,9 @@ impl<R: Files + Net + Clone + Drop> Link for MioLink<R> {
         Ok(Done::Done)
     }
 
-    /// Only descriptor 0 listens; of any other it is a fault. So is want of a descriptor: then the listener isn't ready
-    /// until a connection is closed or somebody else comes.
+    /// Only descriptor 0 listens; of any other it is a fault. So is each error of accept(2) but that nobody waits, as
+    /// EMFILE, that there is no descriptor left: then the listener isn't ready until a connection is closed or somebody
+    /// else comes.
     fn accept(&mut self, fd: u32) -> Result<Accepted, Memory>
         ensures open { AcceptsOpen (has_open self.old) (has_open self.new) result }
         ensures faults { link_faults self.new ≡ link_faults self.old }
@@ -209,7 +214,7 @@ impl<R: Files + Net + Clone + Drop> Link for MioLink<R> {
         Ok(Accepted::Took(taken))
     }
 
-    /// A connection that isn't open has failed.
+    /// A connection that isn't open has failed, and so has one that the peer closed while bytes for it were unread.
     fn read(&mut self, fd: u32, buf: &mut [u8]) -> LinkRead
         requires { 0 < length buf.old }
         ensures within { ReadsWithin result (length buf.new) }
@@ -230,7 +235,7 @@ impl<R: Files + Net + Clone + Drop> Link for MioLink<R> {
         answer
     }
 
-    /// A connection that isn't open has failed.
+    /// A connection that isn't open has failed, and so has one whose peer has closed it. No SIGPIPE comes of that.
     fn write(&mut self, fd: u32, bytes: &[u8]) -> LinkWrote
         requires { 0 < length bytes.now }
         ensures within { WritesWithin result (length bytes.now) }

@@ -21,7 +21,8 @@ pub(crate) struct Polling {
     pub(crate) events: Events,
 }
 
-/// A socket that listens. Its file goes before it does.
+/// A socket that listens. Its file goes before it does: while the socket is open the system gives the file's number to
+/// no other file.
 #[derive(Drop)]
 pub(crate) struct Listener<R: Files + Drop> {
     file: SocketFile<R>,

@@ -3,7 +3,7 @@ use std::fs;
 use std::fs::Files;
 use std::os::unix::fs::MetadataExt;
 
-/// What tells one file from another: its device, and its number there.
+/// What tells one file from another: its device, and its number there (inode(7)).
 #[derive(Clone, Copy, PartialEq, Eq)]
 struct Identity {
     device: u64,

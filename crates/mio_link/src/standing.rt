@@ -4,10 +4,13 @@ ghost use Rattle.std.specs.Prelude.{◌≤◌};
 use std::alloc::Global;
 use tree_specs::Memory;
 
+/// Ready for reading, as `TEVENT_FD_READ`.
 pub(crate) const READ: u8 = 1;
 
+/// Ready for writing, as `TEVENT_FD_WRITE`.
 pub(crate) const WRITE: u8 = 2;
 
+/// Ready for both.
 pub(crate) const BOTH: u8 = 3;
 
 /// What each descriptor is ready for, as the system has told and no call has found otherwise since.

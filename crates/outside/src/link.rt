@@ -45,8 +45,9 @@ pub enum LinkWrote {
     Fault,
 }
 
-/// A listener at a path, and the connections that it has accepted. The listener's descriptor is 0, and those of
-/// connections are from 1 upwards.
+/// A listener at a path, and the connections that it has accepted, as of a Unix socket (unix(7)). The listener's
+/// descriptor is 0, and those of connections are from 1 upwards. What a descriptor is wanted or ready for are tevent's
+/// flags: 1 for reading, 2 for writing. Only `wait` waits.
 pub trait Link {
     /// The calls with their answers so far, where the link tells them. Of a call that found no memory it tells nothing.
     ghost told: { Self → Option (List LinkCall) };
@@ -57,7 +58,8 @@ pub trait Link {
     /// Whether a descriptor was accepted and not closed since. It is always told.
     ghost is_open: { Self → ℕ → Bool };
 
-    /// Listens at the path. `Failed` comes only where the count of faults rose in this call.
+    /// Listens at the path, as bind(2) and listen(2) do. `Failed` comes only where the count of faults rose in this
+    /// call.
     ///
     /// # Errors
     ///
@@ -68,8 +70,9 @@ pub trait Link {
         ensures open { SameOpen (is_open self.old) (is_open self.new) }
         ensures told { Tells (told self.old) (told self.new) (listen_calls path.now result) };
 
-    /// Waits until one of these is ready, at most `limit` microseconds, and leaves in `ready` which are, the least
-    /// first. It may leave fewer than are ready. `Failed` comes only where the count of faults rose in this call.
+    /// Waits until one of these is ready, at most `limit` microseconds, as poll(2) does, and leaves in `ready` which
+    /// are, the least first, in place of what was there. It may leave fewer than are ready. `Failed` comes only where
+    /// the count of faults rose in this call.
     ///
     /// # Errors
     ///
@@ -81,8 +84,8 @@ pub trait Link {
         ensures open { SameOpen (is_open self.old) (is_open self.new) }
         ensures told { Tells (told self.old) (told self.new) (wait_calls wants.now limit result ready.new.items) };
 
-    /// Connects one who waits at the listener of this descriptor. The connection's descriptor is 1 or above, and wasn't
-    /// open.
+    /// Connects one who waits at the listener of this descriptor, as accept(2) does. The connection's descriptor is 1
+    /// or above, and wasn't open.
     ///
     /// # Errors
     ///
@@ -92,7 +95,7 @@ pub trait Link {
         ensures faults { faults self.new ≡ faults self.old }
         ensures told { Tells (told self.old) (told self.new) (accept_calls fd result) };
 
-    /// Reads some bytes to the front of `buf`, which isn't empty. It doesn't wait.
+    /// Reads some bytes to the front of `buf`, which isn't empty, as read(2) does.
     fn read(&mut self, fd: u32, buf: &mut [u8]) -> LinkRead
         requires { 0 < length buf.old }
         ensures within { ReadsWithin result (length buf.new) }
@@ -100,7 +103,7 @@ pub trait Link {
         ensures open { SameOpen (is_open self.old) (is_open self.new) }
         ensures told { Tells (told self.old) (told self.new) (Read fd (length buf.new) (read_input result buf.new) ∷ []) };
 
-    /// Writes some bytes from the front of `bytes`, which isn't empty. It doesn't wait.
+    /// Writes some bytes from the front of `bytes`, which isn't empty, as write(2) does.
     fn write(&mut self, fd: u32, bytes: &[u8]) -> LinkWrote
         requires { 0 < length bytes.now }
         ensures within { WritesWithin result (length bytes.now) }

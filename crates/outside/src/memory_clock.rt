@@ -12,6 +12,7 @@ use std::marker::Model;
 /// A clock that tells times that were prepared. Contracts see the times, and how many have been told.
 #[derive(Drop)]
 pub struct MemClock {
+    /// The times that it tells, in microseconds.
     values: Vec<u64>,
     /// How many times were told. What was told follows from that, until this has come to its last value.
     told: u64,

@@ -24,7 +24,7 @@ use std::alloc::Global;
 use std::marker::Model;
 use tree_specs::{Input, Memory, Want};
 
-/// A link that gives answers that were prepared, and whose listening and waiting fails when it is told to. An answer
+/// A link that gives answers that were prepared, and whose listening and waiting fail when it is told to. An answer
 /// that doesn't fit the call stays the next one; then, and once the answers are used up, nothing is ready and nobody
 /// connects.
 ///
@@ -49,7 +49,7 @@ impl Model for MemLink {
 
 impl MemLink {
     /// A link that gives these answers, and has room to tell `calls` calls and `written` bytes that it is given to
-    /// write. `fails` are the numbers of those calls of `listen` and `wait` that fail, counted from 1.
+    /// write. `fails` are the numbers of those calls of `listen` and `wait` that fail, counted from 1 over both.
     ///
     /// # Errors
     ///

@@ -15,12 +15,15 @@ pub(crate) enum Note {
     Listen(Vec<u8>, Done),
     /// What was wanted, and for how many microseconds at most it waited. The answer says what is ready.
     Wait(Vec<Want>, u64, Input),
+    /// What was wanted, and for how many microseconds at most.
     FailedWait(Vec<Want>, u64),
+    /// The listener's descriptor.
     Accept(u32, Input),
-    /// How many bytes had room.
+    /// The descriptor, and how many bytes had room.
     Read(u32, usize, Input),
-    /// How many bytes there were.
+    /// The descriptor, and how many bytes there were.
     Write(u32, usize, Input),
+    /// The descriptor.
     Close(u32),
 }
 
@@ -32,7 +35,7 @@ pub(crate) struct Notes {
     written: Vec<u8>,
     calls_left: usize,
     bytes_left: usize,
-    /// There was room for all calls so far.
+    /// Whether there was room for all calls so far.
     tells: bool,
 }
 

@@ -42,7 +42,7 @@ pub(crate) fn fits_wait(wants: &[Want], answer: Option<&Input>) -> bool
     }
 }
 
-/// Whether the answer fits a accept while these are open.
+/// Whether the answer fits an accept while these are open.
 pub(crate) fn fits_accept(set: &OpenSet, answer: Option<&Input>) -> bool
     ensures { result ≡ fits_accept set.now (option_copied answer.entry) }
 {
