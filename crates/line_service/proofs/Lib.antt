@@ -2,3 +2,4 @@ mod Names
 mod Served
 mod Stepping
 mod Doing
+mod Offering

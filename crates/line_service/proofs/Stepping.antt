@@ -46,7 +46,7 @@ use Rattle.line_service.specs.Steps.{Gives, IsSetUp, SetsUp, answerer_of, is_own
 
 -- ---- what a host does, as a driver sees it
 
-question-is : (v : View) (w : Waits v) (q : Ask) → question_of v ≡ Some q → w.question ≡ q
+pub question-is : (v : View) (w : Waits v) (q : Ask) → question_of v ≡ Some q → w.question ≡ q
 question-is v w q e = let d : Some w.question ≡ Some q = sym w.open_now ∙ e in cc
 
 pub opens : (v : View) (w : Waits v) (q : Ask) → question_of v ≡ Some q → Opens v q

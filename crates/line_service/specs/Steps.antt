@@ -21,7 +21,7 @@ use Rattle.service_rules.specs.Knowledge.Setup.{Nothing, Unwatched}
 use Rattle.service_rules.specs.Lines.{is_served}
 use Rattle.service_rules.specs.Naming.{stranger_in}
 use Rattle.service_rules.specs.Service.{first_of_outside}
-use Rattle.service_rules.specs.Stations.{StationView, Shows, IsAsked}
+use Rattle.service_rules.specs.Stations.{StationView, Shows, IsAsked, outside_question}
 use Rattle.line_service.specs.declared.answerer.Answerer.{Answerer}
 use Rattle.line_service.specs.declared.answerer.Answerer.TheVariants as answerer
 use Rattle.line_service.specs.declared.runs.Change.{Change}
@@ -75,6 +75,8 @@ pub record IsPrepared (asked : Option Ask) (i : Input) (n : ℕ) (c : Change) (m
 
 -- an answer was asked for, and yet is the one that doesn't fit: nothing comes after it
 pub record StraysAt (v : View) (i : Input) : Type 0 where
+  pub question : Ask
+  pub asked : outside_question (question_of v) ≡ Some question
   pub waits : Waits v
   pub stray : strays_of v (i ∷ []) ≡ true
   pub ends : (is : List Input) → sights_of v (i ∷ is) ≡ sights_of v []
