@@ -9,4 +9,5 @@ pub mod Examples
 pub mod Leaving
 pub mod Schedules
 pub mod Sent
+pub mod Fair
 pub mod Stations
