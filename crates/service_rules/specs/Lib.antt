@@ -10,4 +10,5 @@ pub mod Leaving
 pub mod Schedules
 pub mod Sent
 pub mod Fair
+pub mod Fitting
 pub mod Stations
