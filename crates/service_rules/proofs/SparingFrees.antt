@@ -1,20 +1,13 @@
 -- A free of another object spares an event, but for the freeing of its owner, which removes it.
-use Rattle.std.proofs.Common.{◌≡◌, ◌≢◌, ℕ, Bool, true, false, List, [], ◌∷◌, Option, Some, None, refl, sym, ◌∙◌, ap, subst, ◌⊎◌, inl, inr}
-use Rattle.std.specs.Prelude.{nat_eq, if◌then◌else◌}
-use Rattle.step_machine.specs.Machine.{Move}
-use Rattle.step_machine.specs.Machine.{Move as Do}
+use Rattle.std.proofs.Common.{◌≡◌, ◌≢◌, ℕ, List, ◌∷◌, Option, Some, None, refl, sym, ◌∙◌, ap, inl, inr}
+use Rattle.std.specs.Prelude.{nat_eq}
 use Rattle.tree_specs.specs.declared.object.Obj.{Obj}
 use Rattle.tree_specs.specs.declared.object.Owner.{Owner}
-use Rattle.tree_specs.specs.declared.object.Owner.TheVariants.{Root, Of}
-use Rattle.tree_specs.specs.declared.kind.Kind.{Kind}
+use Rattle.tree_specs.specs.declared.object.Owner.TheVariants.{Of}
 use Rattle.tree_specs.specs.declared.kind.Kind.TheVariants.{Descriptor}
 use Rattle.tree_specs.specs.declared.row.Row.{Row}
 use Rattle.tree_specs.specs.declared.row.Mark.{Mark}
 use Rattle.tree_specs.specs.declared.row.Mark.TheVariants as mark
-use Rattle.tree_specs.specs.declared.watch.Watch.{Watch}
-use Rattle.tree_specs.specs.declared.event.Event.{Event}
-use Rattle.tree_specs.specs.declared.event.Event.TheVariants as event
-use Rattle.tree_specs.specs.declared.question.Input.{Input}
 use Rattle.tree_specs.specs.declared.frame.Frame.{Frame}
 use Rattle.tree_specs.specs.declared.frame.Frame.TheVariants as frame
 use Rattle.tree_specs.specs.declared.frame.FreeFrame.{FreeFrame}
@@ -29,14 +22,14 @@ use Rattle.tree_specs.specs.Tree.Heirs.{heir}
 use Rattle.tree_specs.specs.Tree.Forest.{Distinct}
 use Rattle.tree_specs.specs.Events.Rotation.{closes_with}
 use Rattle.tree_specs.specs.Calls.Refusals.{is_request, is_queue}
-use Rattle.tree_specs.specs.Machine.FreeTable.{free_step, begin_step, begin_by, unlink_step, release_step, refs_step, judge_step, loop_step, last_step, child_step, tried_step, hand_on_step}
-use Rattle.tree_specs.specs.Machine.Table.{lifted, run_for, announced, closed_event}
+use Rattle.tree_specs.specs.Machine.FreeTable.{free_step, begin_step, begin_by, unlink_step, release_step, refs_step, loop_step, last_step, child_step, tried_step, hand_on_step}
+use Rattle.tree_specs.specs.Machine.Table.{lifted, announced, closed_event}
 use Rattle.tree_specs.specs.Invariants.Consistent.{IsConsistent}
 use Rattle.tree_specs.proofs.Tree.Numbered.{by_test, same_or_not}
 use Rattle.tree_specs.proofs.Tree.Rows.{first_kid-owner}
 use Rattle.tree_specs.proofs.Tree.Referring.{newest-refers, newest-of-refers}
 use Rattle.service_rules.proofs.Tending.{Tended, tended-edited, tended-gone, tended-removed, tended-placed}
-use Rattle.service_rules.proofs.Sparing.{SparesFree, Spares, AllSpare, Removes, Removing, Tends, LeadsTends, IsNoEmptying, done-tends, below-tends, under}
+use Rattle.service_rules.proofs.Sparing.{SparesFree, AllSpare, Removes, Tends, LeadsTends, IsNoEmptying, done-tends, below-tends}
 
 module _ (e k : Obj) (fd : ℕ) (fs : List Frame) (p : Pool) where
   abbrev Leads : FreeFrame → Type 0

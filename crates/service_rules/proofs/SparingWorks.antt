@@ -1,25 +1,17 @@
 -- Turns, and the works of requests, spare an event below an owner.
-use Rattle.std.proofs.Common.{◌≡◌, ◌≢◌, ℕ, Bool, true, false, List, [], ◌∷◌, Option, Some, None, refl, sym, ◌∙◌, ap, subst, ◌⊎◌, inl, inr}
-use Rattle.std.specs.Prelude.{◌||◌, nat_eq, nat_le, is_some, if◌then◌else◌}
-use Rattle.step_machine.specs.Machine.{Move}
-use Rattle.step_machine.specs.Machine.{Move as Do}
+use Rattle.std.proofs.Common.{◌≡◌, ◌≢◌, ℕ, Bool, true, false, List, [], ◌∷◌, Option, Some, None, refl, sym, ◌∙◌, ap, subst, inl, inr}
+use Rattle.std.specs.Prelude.{nat_eq, nat_le, is_some}
 use Rattle.tree_specs.specs.declared.object.Obj.{Obj}
-use Rattle.tree_specs.specs.declared.object.Owner.TheVariants.{Root, Of}
-use Rattle.tree_specs.specs.declared.kind.Kind.{Kind}
 use Rattle.tree_specs.specs.declared.kind.Kind.TheVariants as kind
 use Rattle.tree_specs.specs.declared.row.Row.{Row}
-use Rattle.tree_specs.specs.declared.row.Mark.{Mark}
 use Rattle.tree_specs.specs.declared.row.Mark.TheVariants as mark
 use Rattle.tree_specs.specs.declared.due.Due.{Due}
 use Rattle.tree_specs.specs.declared.call.Call.TheVariants as call
 use Rattle.tree_specs.specs.declared.handler.Handler.{Handler}
 use Rattle.tree_specs.specs.declared.request.Note.{Note}
-use Rattle.tree_specs.specs.declared.request.State.TheVariants.{TimedOut, Received}
-use Rattle.tree_specs.specs.declared.watch.Watch.{Watch}
-use Rattle.tree_specs.specs.declared.occasion.Occasion.{Occasion}
+use Rattle.tree_specs.specs.declared.request.State.TheVariants.{Received}
 use Rattle.tree_specs.specs.declared.moment.What.{What}
 use Rattle.tree_specs.specs.declared.moment.What.TheVariants as what
-use Rattle.tree_specs.specs.declared.question.Input.{Input}
 use Rattle.tree_specs.specs.declared.frame.Frame.{Frame}
 use Rattle.tree_specs.specs.declared.frame.Frame.TheVariants as frame
 use Rattle.tree_specs.specs.declared.frame.TurnFrame.{TurnFrame}
@@ -31,14 +23,13 @@ use Rattle.tree_specs.specs.declared.frame.Errand.TheVariants.{Finish, Notify, R
 use Rattle.tree_specs.specs.Tree.Pool.{Pool, row_of, set_mark, marked_row, schedule, unschedule, disarm, renote, finish, receive, run_queue, trigger}
 use Rattle.tree_specs.specs.Tree.Targets.{newest_ref}
 use Rattle.tree_specs.specs.Calls.Refusals.{Check, refusals, is_entry, is_doomed, is_doomed_mark}
-use Rattle.tree_specs.specs.Calls.Plans.{Plan, plan, planned, unless_refused, frees}
-use Rattle.tree_specs.specs.Calls.Plans.Plan.{Frees, Unlinks}
+use Rattle.tree_specs.specs.Calls.Plans.{unless_refused, frees}
 use Rattle.tree_specs.specs.Events.Coming.{handler_for, goes_after, begun, rotated, comes_as, is_once}
 use Rattle.tree_specs.specs.Events.Pending.{first}
 use Rattle.tree_specs.specs.Events.Queues.{Head, has_queue, head_of, next_of}
 use Rattle.tree_specs.specs.Events.Requests.{note_of, is_noted, is_unreceived, cleanup_in, cancel_in, cleaned, not_deferring, in_state}
 use Rattle.tree_specs.specs.Events.Rotation.{watch_of, is_watching}
-use Rattle.tree_specs.specs.Machine.Table.{Step, step, taken, work_of, due_now, due_step, taking_step, soon_step, queue_step, early_step, timed_step, starting_step, handled_step, turn_step, cancelling_step, cleaning_step, release_object, cleaned_step, callback_step, notifying_step, receiving_step, vacating_step, triggering_step, request_step}
+use Rattle.tree_specs.specs.Machine.Table.{work_of, due_now, due_step, taking_step, early_step, timed_step, starting_step, handled_step, turn_step, cancelling_step, cleaning_step, release_object, cleaned_step, callback_step, notifying_step, receiving_step, vacating_step, triggering_step, request_step}
 use Rattle.tree_specs.specs.Machine.Profiles.{turn_profile}
 use Rattle.tree_specs.specs.Invariants.Consistent.{IsConsistent}
 use Rattle.tree_specs.specs.Invariants.Awaiting.{MayCome}
@@ -47,7 +38,7 @@ use Rattle.tree_specs.proofs.Tree.Numbered.{by_test}
 use Rattle.tree_specs.proofs.Invariants.Turning.{handler-ready, taken-plain}
 use Rattle.tree_specs.proofs.Invariants.Queues.{head-waiting}
 use Rattle.service_rules.proofs.Tending.{Tended, tended-on, tended-edited, no-more, notes-renoted, turned-of}
-use Rattle.service_rules.proofs.Sparing.{Spares, SparesTurn, AllSpare, Removing, Tends, LeadsTends, done-tends, below-tends}
+use Rattle.service_rules.proofs.Sparing.{Spares, SparesTurn, AllSpare, Tends, LeadsTends, done-tends, below-tends}
 
 module _ (e k : Obj) (fd : ℕ) (fs : List Frame) (p : Pool) where
   abbrev Whole : Frame → Type 0
