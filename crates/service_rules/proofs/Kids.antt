@@ -60,7 +60,7 @@ removed p x y n h = elim (same_or_not x y) [
     none : (n : Note) → None ≡ Some n → ⊥
     none n e = cc
 
-changed-note : (g : Note → Note) (p q : Pool) (x : Obj) → q.requests ≡ renoted g p.requests x → ((n : Note) → (g n).child ≡ n.child) → Kids p q
+pub changed-note : (g : Note → Note) (p q : Pool) (x : Obj) → q.requests ≡ renoted g p.requests x → ((n : Note) → (g n).child ≡ n.child) → Kids p q
 changed-note g p q x is child y n h = elim (same_or_not x y) [
   | inl i ↦ own (note_of p.requests x) refl i
   | inr other ↦ (n, sym (ap (λ ns. note_of ns y) is ∙ renoted-other g p.requests x y other) ∙ h, refl)
