@@ -7,7 +7,10 @@ use Rattle.tree_specs.specs.declared.call.Call.TheVariants as call
 use Rattle.tree_specs.specs.declared.frame.Frame.{Frame}
 use Rattle.tree_specs.specs.Tree.Pool.{Pool}
 use Rattle.service_rules.specs.declared.order.Order.{Order}
+use Rattle.service_rules.specs.declared.order.Order.TheVariants as order
 use Rattle.service_rules.specs.declared.task.Accepting.TheVariants as accepting
+use Rattle.service_rules.specs.declared.task.Fulfilling.{Fulfilling}
+use Rattle.service_rules.specs.declared.task.Fulfilling.TheVariants as fulfilling
 use Rattle.service_rules.specs.declared.task.Notice.{Notice}
 use Rattle.service_rules.specs.declared.task.Notifying.{Notifying}
 use Rattle.service_rules.specs.declared.task.Notifying.TheVariants as notifying
@@ -25,7 +28,7 @@ use Rattle.service_rules.specs.Sent.{Ledger}
 use Rattle.service_rules.proofs.Entries.{found-put}
 use Rattle.service_rules.proofs.Owing.{IsKnown, Goes, whole, Keeps, Before, IsCallOf, IsNoWrite, Below}
 use Rattle.service_rules.proofs.Growing.{speaks, Appends, appends-then, appends-put, appends-becomes, became-goes, became-keeps, free-still, session-still}
-use Rattle.service_rules.proofs.Served.{IfNoWrite, IfWanted, progress-served, fulfilling-no-write, order-no-write}
+use Rattle.service_rules.proofs.Served.{IsServed, IfWanted, progress-served, within-no-write}
 
 -- after an answer nothing is on its way
 pub record Settled (d : Knowledge) (l : Ledger) (next : ℕ) (fs : List Frame) (e : Knowledge) : Type 0 where
@@ -42,14 +45,35 @@ module _ (d : Knowledge) (l : Ledger) (next : ℕ) (fs : List Frame) where
   doing-acts e t None s b h = s
   doing-acts e t (Some c) s b h = (s, b, h c refl)
 
-  if-none : (o : Option Call) (c : Call) → IfNoWrite o → o ≡ Some c → IsNoWrite c
-  if-none None c h e = cc
-  if-none (Some b) c h e = let e' : b ≡ c = cc in subst IsNoWrite e' h
+  abbrev IfCall : Knowledge → Task → Option Call → Type 0
+  IfCall e t None = Unit {0}
+  IfCall e t (Some c) = IsCallOf e c t
+
+  if-call : (e : Knowledge) (t : Task) (o : Option Call) → IfCall e t o → (c : Call) → o ≡ Some c → IsCallOf e c t
+  if-call e t None h c is = cc
+  if-call e t (Some b) h c is = let i : b ≡ c = cc in subst (λ (z : Call). IsCallOf e z t) i h
+
+  order-call-of : (e : Knowledge) (s queue : Obj) (tag : ℕ) (at : Fulfilling) → IfCall e (task.Serve s (serving.Order tag at)) (fulfilling_call s queue at)
+  order-call-of e s queue tag fulfilling.Call = tt
+  order-call-of e s queue tag fulfilling.Parent = tt
+  order-call-of e s queue tag (fulfilling.Sleep delay) = tt
+  order-call-of e s queue tag (fulfilling.Now request delay) = tt
+  order-call-of e s queue tag (fulfilling.EndTime request now delay) = tt
+  order-call-of e s queue tag (fulfilling.Job delay) = tt
+  order-call-of e s queue tag (fulfilling.Enqueue request delay) = tt
+  order-call-of e s queue tag (fulfilling.Callback request) = tt
+  order-call-of e s queue tag (fulfilling.Undo request why) = tt
+
+  first-call-of : (e : Knowledge) (s : Obj) (c : Connection) (tag : ℕ) (o : Order) → IsServed o → IfCall e (task.Serve s (serving.Order tag (fulfilling_for o))) (order_call s c o)
+  first-call-of e s c tag (order.Call (call.Parent x)) h = tt
+  first-call-of e s c tag (order.Call b) h = within-no-write s b h
+  first-call-of e s c tag (order.Sleep n) h = tt
+  first-call-of e s c tag (order.Job n) h = tt
 
   pub serving-acts : (e : Knowledge) (s : Obj) (c : Connection) (at : Serving) → Settled d l next fs e → IsKnown e s.0 c → ActsFine d l next fs (doing e (task.Serve s at) (serving_call s c at))
   serving-acts e s c serving.Read settled known = (settled, tt, tt)
   serving-acts e s c serving.Lines settled known = settled
-  serving-acts e s c (serving.Order tag at) settled known = doing-acts e (task.Serve s (serving.Order tag at)) (fulfilling_call s c.queue at) settled tt (λ b h. if-none (fulfilling_call s c.queue at) b (fulfilling-no-write s c.queue at) h)
+  serving-acts e s c (serving.Order tag at) settled known = doing-acts e (task.Serve s (serving.Order tag at)) (fulfilling_call s c.queue at) settled tt (if-call e (task.Serve s (serving.Order tag at)) (fulfilling_call s c.queue at) (order-call-of e s c.queue tag at))
   serving-acts e s c serving.Write settled known = each c.unsent refl
     where
       each : (u : List ℕ) → c.unsent ≡ u → ActsFine d l next fs (doing e (task.Serve s serving.Write) (write_call c.descriptor u))
@@ -108,7 +132,7 @@ module _ (d : Knowledge) (l : Ledger) (next : ℕ) (fs : List Frame) where
 
         each : (o : Option (ℕ × Order)) → IfWanted o → ActsFine d l next fs (goes_on e' s c' o)
         each None h = on-acts e' s c' (after_reading c') settled (found-put s.0 c' e.connections)
-        each (Some (tag, o)) h = doing-acts e' (task.Serve s (serving.Order tag (fulfilling_for o))) (order_call s c' o) settled tt (λ b i. if-none (order_call s c' o) b (order-no-write s c' o h) i)
+        each (Some (tag, o)) h = doing-acts e' (task.Serve s (serving.Order tag (fulfilling_for o))) (order_call s c' o) settled tt (if-call e' (task.Serve s (serving.Order tag (fulfilling_for o))) (order_call s c' o) (first-call-of e' s c' tag o h))
 
     pub does-acts : (p : Pool) (e : Knowledge) (t : Task) → Appends d e → Below fs e.runs → Before d l next t → ActsFine d l next fs (does e p t)
     does-acts p e (task.Accept at) a below b = (settles e a below, before-still e a (task.Accept at) b, refl)

@@ -4,6 +4,7 @@ use Rattle.std.specs.Prelude.{nat_eq}
 use Rattle.tree_specs.specs.declared.object.Obj.{Obj}
 use Rattle.tree_specs.specs.declared.call.Call.{Call}
 use Rattle.tree_specs.specs.declared.call.Call.TheVariants as call
+use Rattle.tree_specs.specs.declared.reply.Reply.{Reply}
 use Rattle.tree_specs.specs.declared.reply.Reply.TheVariants as reply
 use Rattle.tree_specs.specs.declared.reply.Refusal.{Refusal}
 use Rattle.tree_specs.specs.declared.reply.Refusal.TheVariants as refusal
@@ -26,6 +27,7 @@ use Rattle.tree_specs.specs.Machine.Table.{plan_step, work_of, step}
 use Rattle.tree_specs.proofs.Tree.Numbered.{by_test}
 use Rattle.service_rules.specs.declared.task.Accepting.{Accepting}
 use Rattle.service_rules.specs.declared.task.Accepting.TheVariants as accepting
+use Rattle.service_rules.specs.declared.task.Fulfilling.TheVariants as fulfilling
 use Rattle.service_rules.specs.declared.task.Run.{Run}
 use Rattle.service_rules.specs.declared.task.Run.TheVariants.{Own, Outside}
 use Rattle.service_rules.specs.declared.task.Serving.TheVariants as serving
@@ -34,7 +36,7 @@ use Rattle.service_rules.specs.declared.task.Task.TheVariants as task
 use Rattle.service_rules.specs.Knowledge.{Knowledge}
 use Rattle.service_rules.specs.Tasks.{accepting_call}
 use Rattle.service_rules.specs.Sent.{Ledger}
-use Rattle.service_rules.proofs.Owing.{Goes, whole, Keeps, Before, After, IsCallOf, IsAskOf, IsNoWrite, IsNoWriting, IsCalm, IsOwn, Top, Below, Rest, IsResting, Does, Stands}
+use Rattle.service_rules.proofs.Owing.{Goes, whole, Keeps, Before, After, IsCallOf, IsAskOf, IsNoWrite, IsNoWriting, IsReq, IsCalm, IsOwn, Top, Below, Rest, IsResting, Does, Stands}
 use Rattle.service_rules.proofs.Leading.{LeadsFine}
 use Rattle.service_rules.proofs.Standing.{keeps-later, session-later, calm-after}
 
@@ -57,6 +59,7 @@ plan-no-writing p (call.Free x) h = frees-no-writing (newest_ref p.rows x) x
 plan-no-writing p (call.Error x error) h = by_test (nat_eq error 0) (λ t. rw t tt) (λ t. rw t tt)
 plan-no-writing p (call.Start q) h = by_test (runs_queue p.queues q) (λ t. rw t tt) (λ t. rw t tt)
 plan-no-writing p (call.Write fd bytes) h = absurd h
+plan-no-writing p (call.Accept fd) h = absurd h
 plan-no-writing p _ h = tt
 
 module _ (d : Knowledge) (l : Ledger) (fs : List Frame) (p : Pool) where
@@ -111,11 +114,17 @@ module _ (d : Knowledge) (l : Ledger) (fs : List Frame) (p : Pool) where
   accepting-fits (accepting.Close fd) k b g = (tt, g)
   accepting-fits (accepting.Free s) k b g = frees-fits (task.Accept (accepting.Free s)) (newest_ref p.rows s) s tt
 
+  req-fits : (t : Task) (c : Call) → IsReq c → ((r : Reply) (next : ℕ) → After d l next r t) → Fits t (plan p c)
+  req-fits t (call.Req owner size name) is after = after (reply.Number p.next) (p.next + 1 + 1)
+  req-fits t _ is after = absurd is
+
   plan-fits : (t : Task) (c : Call) → Keeps d l p.next → Before d l p.next t → Goes d l whole → IsCallOf d c t → Fits t (plan p c)
   plan-fits (task.Accept at) c k b g is = subst (λ (z : Call). Fits (task.Accept at) (plan p z)) (sym is) (accepting-fits at k b g)
   plan-fits (task.Serve s serving.Write) c k b g is = subst (λ (z : Call). Fits (task.Serve s serving.Write) (plan p z)) (sym is.2) (is.0, is.1, refl)
   plan-fits (task.Serve s serving.Read) c k b g is = calm-fits (task.Serve s serving.Read) (plan p c) tt g (λ q n. n) (plan-no-writing p c is)
   plan-fits (task.Serve s serving.Lines) c k b g is = calm-fits (task.Serve s serving.Lines) (plan p c) tt g (λ q n. n) (plan-no-writing p c is)
+  plan-fits (task.Serve s (serving.Order tag (fulfilling.Sleep delay))) c k b g is = req-fits (task.Serve s (serving.Order tag (fulfilling.Sleep delay))) c is (λ r next. (tt, g))
+  plan-fits (task.Serve s (serving.Order tag (fulfilling.Job delay))) c k b g is = req-fits (task.Serve s (serving.Order tag (fulfilling.Job delay))) c is (λ r next. (tt, g))
   plan-fits (task.Serve s (serving.Order tag at)) c k b g is = calm-fits (task.Serve s (serving.Order tag at)) (plan p c) tt g (λ q n. n) (plan-no-writing p c is)
   plan-fits (task.Serve s serving.Flags) c k b g is = calm-fits (task.Serve s serving.Flags) (plan p c) tt g (λ q n. n) (plan-no-writing p c is)
   plan-fits (task.Serve s serving.Leave) c k b g is = calm-fits (task.Serve s serving.Leave) (plan p c) tt g (λ q n. n) (plan-no-writing p c is)

@@ -18,6 +18,7 @@ use Rattle.tree_specs.specs.declared.frame.CallFrame.TheVariants.{Asking, Doing,
 use Rattle.tree_specs.specs.declared.frame.OutsideFrame.{OutsideFrame}
 use Rattle.tree_specs.specs.declared.frame.OutsideFrame.TheVariants.{Reaching, Opening, Hearing}
 use Rattle.service_rules.specs.declared.task.Accepting.TheVariants as accepting
+use Rattle.service_rules.specs.declared.task.Fulfilling.TheVariants as fulfilling
 use Rattle.service_rules.specs.declared.task.Run.{Run}
 use Rattle.service_rules.specs.declared.task.Run.TheVariants.{Own}
 use Rattle.service_rules.specs.declared.task.Serving.TheVariants as serving
@@ -79,12 +80,15 @@ Accepted d l next t r = Unit {0}
 abbrev pub After : Knowledge → Ledger → ℕ → Reply → Task → Type 0
 After d l next r t = Accepted d l next t r × Goes d l (rest_by t r)
 
+-- no write, and nothing is accepted
 abbrev pub IsNoWrite : Call → Type 0
 IsNoWrite (call.Write fd bytes) = ⊥
+IsNoWrite (call.Accept fd) = ⊥
 IsNoWrite c = Unit {0}
 
 abbrev pub IsNoWriting : Ask → Type 0
 IsNoWriting (ask.Write fd bytes) = ⊥
+IsNoWriting (ask.Accept fd) = ⊥
 IsNoWriting q = Unit {0}
 
 -- the unsent bytes of a connection, as many as one write takes
@@ -94,10 +98,17 @@ writes c = call.Write c.descriptor (take OCTETS_LIMIT c.unsent)
 abbrev pub is_writing : Connection → Ask
 is_writing c = ask.Write c.descriptor (take OCTETS_LIMIT c.unsent)
 
+-- a request is made
+abbrev pub IsReq : Call → Type 0
+IsReq (call.Req owner size name) = Unit {0}
+IsReq c = ⊥
+
 -- a task's call
 abbrev pub IsCallOf : Knowledge → Call → Task → Type 0
 IsCallOf d c (task.Accept at) = c ≡ accepting_call at
 IsCallOf d c (task.Serve s serving.Write) = (e : Connection) × IsKnown d s.0 e × (c ≡ writes e)
+IsCallOf d c (task.Serve s (serving.Order tag (fulfilling.Sleep delay))) = IsReq c
+IsCallOf d c (task.Serve s (serving.Order tag (fulfilling.Job delay))) = IsReq c
 IsCallOf d c t = IsNoWrite c
 
 -- and what the outside is asked for it
@@ -114,6 +125,8 @@ IsCalm (task.Accept (accepting.Event fd s)) = ⊥
 IsCalm (task.Accept (accepting.Autoclose fd s e)) = ⊥
 IsCalm (task.Accept (accepting.Queue fd s e)) = ⊥
 IsCalm (task.Serve s serving.Write) = ⊥
+IsCalm (task.Serve s (serving.Order tag (fulfilling.Sleep delay))) = ⊥
+IsCalm (task.Serve s (serving.Order tag (fulfilling.Job delay))) = ⊥
 IsCalm t = Unit {0}
 
 -- ---- runs and works

@@ -95,14 +95,14 @@ module _ (d : Knowledge) (l : Ledger) (next : ℕ) where
       session : Before d l next (session_for new)
       session = each (is_return new)
   accept-after fd new free g (task.Serve s serving.Write) a = let e : ask.Accept fd ≡ is_writing a.0 = a.2 in cc
-  accept-after fd new free g (task.Serve s serving.Read) a = (tt, g)
-  accept-after fd new free g (task.Serve s serving.Lines) a = (tt, g)
-  accept-after fd new free g (task.Serve s (serving.Order tag at)) a = (tt, g)
-  accept-after fd new free g (task.Serve s serving.Flags) a = (tt, g)
-  accept-after fd new free g (task.Serve s serving.Leave) a = (tt, g)
-  accept-after fd new free g (task.Notify x at) a = (tt, g)
-  accept-after fd new free g (task.Trigger s at) a = (tt, g)
-  accept-after fd new free g task.Return a = (tt, g)
+  accept-after fd new free g (task.Serve s serving.Read) a = absurd a
+  accept-after fd new free g (task.Serve s serving.Lines) a = absurd a
+  accept-after fd new free g (task.Serve s (serving.Order tag at)) a = absurd a
+  accept-after fd new free g (task.Serve s serving.Flags) a = absurd a
+  accept-after fd new free g (task.Serve s serving.Leave) a = absurd a
+  accept-after fd new free g (task.Notify x at) a = absurd a
+  accept-after fd new free g (task.Trigger s at) a = absurd a
+  accept-after fd new free g task.Return a = absurd a
 
 -- bytes that were written
 write-after : (d : Knowledge) (l : Ledger) (next fd : ℕ) (bytes : List ℕ) (n : ℕ) → Keeps d l next → Goes d l whole → n ≤ length bytes → (t : Task) → IsAskOf d (ask.Write fd bytes) t → After d (writes_more fd bytes n l) next (reply.Number n) t

@@ -126,8 +126,9 @@ fulfilling-no-write s queue (fulfilling.Enqueue request delay) = tt
 fulfilling-no-write s queue (fulfilling.Callback request) = tt
 fulfilling-no-write s queue (fulfilling.Undo request why) = tt
 
-within-no-write : (s : Obj) (c : Call) → is_served c ≡ true → IsNoWrite (within s c)
+pub within-no-write : (s : Obj) (c : Call) → is_served c ≡ true → IsNoWrite (within s c)
 within-no-write s (call.Write fd bytes) h = cc
+within-no-write s (call.Accept fd) h = cc
 within-no-write s (call.New o size name) h = tt
 within-no-write s (call.Steal o x) h = tt
 within-no-write s (call.Reference o x) h = tt

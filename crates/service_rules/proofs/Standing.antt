@@ -15,6 +15,7 @@ use Rattle.tree_specs.specs.declared.frame.Answer.{Answer}
 use Rattle.tree_specs.specs.Rules.Answers.{freed_reply}
 use Rattle.tree_specs.specs.Machine.Table.{resume, reply_in, heard_in}
 use Rattle.service_rules.specs.declared.task.Accepting.TheVariants as accepting
+use Rattle.service_rules.specs.declared.task.Fulfilling.TheVariants as fulfilling
 use Rattle.service_rules.specs.declared.task.Run.{Run}
 use Rattle.service_rules.specs.declared.task.Run.TheVariants.{Own, Outside}
 use Rattle.service_rules.specs.declared.task.Serving.TheVariants as serving
@@ -133,6 +134,8 @@ module _ (d : Knowledge) (l : Ledger) (next : ℕ) where
   calm-after r (task.Serve s serving.Write) c g = absurd c
   calm-after r (task.Serve s serving.Read) c g = (tt, g)
   calm-after r (task.Serve s serving.Lines) c g = (tt, g)
+  calm-after r (task.Serve s (serving.Order tag (fulfilling.Sleep delay))) c g = absurd c
+  calm-after r (task.Serve s (serving.Order tag (fulfilling.Job delay))) c g = absurd c
   calm-after r (task.Serve s (serving.Order tag at)) c g = (tt, g)
   calm-after r (task.Serve s serving.Flags) c g = (tt, g)
   calm-after r (task.Serve s serving.Leave) c g = (tt, g)
