@@ -115,6 +115,8 @@ IsCallOf d c t = IsNoWrite c
 abbrev pub IsAskOf : Knowledge → Ask → Task → Type 0
 IsAskOf d q (task.Accept at) = (at ≡ accepting.Accept) × (q ≡ ask.Accept 0)
 IsAskOf d q (task.Serve s serving.Write) = (e : Connection) × IsKnown d s.0 e × (q ≡ is_writing e)
+IsAskOf d q (task.Serve s (serving.Order tag (fulfilling.Sleep delay))) = ⊥
+IsAskOf d q (task.Serve s (serving.Order tag (fulfilling.Job delay))) = ⊥
 IsAskOf d q t = IsNoWriting q
 
 -- it needs to know nothing after its reply

@@ -23,6 +23,7 @@ use Rattle.tree_specs.proofs.Tree.Numbered.{by_test}
 use Rattle.tree_specs.proofs.Calls.Plans.{IsOutside}
 use Rattle.service_rules.specs.declared.task.Accepting.{Accepting}
 use Rattle.service_rules.specs.declared.task.Accepting.TheVariants as accepting
+use Rattle.service_rules.specs.declared.task.Fulfilling.TheVariants as fulfilling
 use Rattle.service_rules.specs.declared.task.Run.{Run}
 use Rattle.service_rules.specs.declared.task.Run.TheVariants.{Own, Outside}
 use Rattle.service_rules.specs.declared.task.Serving.TheVariants as serving
@@ -97,6 +98,8 @@ module _ (d : Knowledge) (l : Ledger) (next : ℕ) where
   accept-after fd new free g (task.Serve s serving.Write) a = let e : ask.Accept fd ≡ is_writing a.0 = a.2 in cc
   accept-after fd new free g (task.Serve s serving.Read) a = absurd a
   accept-after fd new free g (task.Serve s serving.Lines) a = absurd a
+  accept-after fd new free g (task.Serve s (serving.Order tag (fulfilling.Sleep delay))) a = absurd a
+  accept-after fd new free g (task.Serve s (serving.Order tag (fulfilling.Job delay))) a = absurd a
   accept-after fd new free g (task.Serve s (serving.Order tag at)) a = absurd a
   accept-after fd new free g (task.Serve s serving.Flags) a = absurd a
   accept-after fd new free g (task.Serve s serving.Leave) a = absurd a
@@ -117,6 +120,8 @@ write-after d l next fd bytes n k g few (task.Serve s serving.Write) a =
         (subst (λ (z : List ℕ). Goes d (writes_more a.0.descriptor z n l) (rest_by (task.Serve s serving.Write) (reply.Number n))) (sym j) goes))
 write-after d l next fd bytes n k g few (task.Serve s serving.Read) a = absurd a
 write-after d l next fd bytes n k g few (task.Serve s serving.Lines) a = absurd a
+write-after d l next fd bytes n k g few (task.Serve s (serving.Order tag (fulfilling.Sleep delay))) a = absurd a
+write-after d l next fd bytes n k g few (task.Serve s (serving.Order tag (fulfilling.Job delay))) a = absurd a
 write-after d l next fd bytes n k g few (task.Serve s (serving.Order tag at)) a = absurd a
 write-after d l next fd bytes n k g few (task.Serve s serving.Flags) a = absurd a
 write-after d l next fd bytes n k g few (task.Serve s serving.Leave) a = absurd a
