@@ -1,5 +1,5 @@
 -- What an answer to the open question leads to.
-use Rattle.std.proofs.Common.{Result, Err, IsErrAnd, ◌≡◌, List, ◌∷◌, reverse, Option, Some, None, true, false, refl, sym, ◌∙◌, ap, subst}
+use Rattle.std.proofs.Common.{Result, Err, IsErrAnd, ◌≡◌, List, [], ◌∷◌, reverse, Option, Some, None, true, false, refl, sym, ◌∙◌, ap, subst}
 use Rattle.std.specs.Prelude.{is_none, is_some}
 use Rattle.std.specs.Option.{option_map}
 use Rattle.step_machine.specs.Machine.{Move as Do}
@@ -19,6 +19,7 @@ use Rattle.tree_specs.specs.declared.frame.Frame.{Frame}
 use Rattle.tree_specs.specs.declared.frame.Frame.TheVariants as frame
 use Rattle.tree_specs.specs.declared.frame.TurnFrame.{TurnFrame}
 use Rattle.tree_specs.specs.declared.frame.TurnFrame.TheVariants.{Timing, Polling}
+use Rattle.tree_specs.specs.declared.frame.FreeFrame.{FreeFrame}
 use Rattle.tree_specs.specs.declared.frame.OutsideFrame.TheVariants.{Reaching}
 use Rattle.tree_specs.specs.declared.frame.CallFrame.{CallFrame}
 use Rattle.tree_specs.specs.declared.frame.CallFrame.TheVariants.{Asking, Doing, Telling}
@@ -48,7 +49,8 @@ use Rattle.host_core.specs.declared.owned_reply.OwnedReply.{OwnedReply}
 use Rattle.host_core.specs.declared.parts.Parts.{Parts}
 use Rattle.host_core.specs.declared.caller.Caller.{Caller}
 use Rattle.host_core.specs.Callers.{frame_of, staged, open_at, remembers}
-use Rattle.host_core.specs.Stacks.{active_frame}
+use Rattle.host_core.specs.declared.waiting.Waiting.{Waiting}
+use Rattle.host_core.specs.Stacks.{active_frame, seen}
 use Rattle.host_core.specs.Moves.{report_of, call_of, reported}
 use Rattle.host_core.specs.Promises.{Waits, TakesAnswer, taken_in}
 use Rattle.machine_driver.specs.Seen.{sight}
@@ -337,9 +339,11 @@ waits-some v None now parts h e s = cc
 waits-some v (Some r) now parts h e s = waits-now now parts (v r) (sym e) h
 
 -- what waits for the outside has asked it what the outside is asked
-asks-outside : (now : Active) (objects : Objects) → PartsReady now objects → (q : Ask) → active_frame now ≡ frame.Outside (Reaching q) → IsOutside q
-asks-outside (active.Reaching asked) objects ready q e = let e' : asked ≡ q = cc in subst IsOutside e' ready
-asks-outside _ objects ready q e = cc
+asks-outside : (now : Active) (fs : List FreeFrame) (ws : List Waiting) (objects : Objects) → PartsReady now objects → (q : Ask) → (seen now fs ws objects.pool).innermost ≡ frame.Outside (Reaching q) → IsOutside q
+asks-outside (active.Reaching asked) fs ws objects ready q e = let e' : asked ≡ q = cc in subst IsOutside e' ready
+asks-outside active.Freeing [] ws objects ready q e = cc
+asks-outside active.Freeing (f ∷ fs) ws objects ready q e = cc
+asks-outside _ fs ws objects ready q e = cc
 
 -- the answer was taken, and the story goes on after the steps that tell nothing
 pub takes-answer : (v : View) (now : Active) (parts : Parts) (i : Input) (q : Ask) (w : View) (next : Active) (after : Parts) → IsBetweenSteps now parts → speaking_view (host_view now parts) ≡ true → host_view now parts ≡ v → Offered now parts i q w
@@ -355,5 +359,5 @@ takes-answer v now parts i q w next after b s e o a ready = let w' : View = host
   strays = λ is. ap (λ (z : View). strays_of z (i ∷ is)) (sym e) ∙ o.strays is ∙ a.strays is;
   more = λ is. always-more w' is a.whole;
   whole = a.whole;
-  outside = λ asked reaches. asks-outside next after.objects ready.ready asked reaches;
+  outside = λ asked reaches. asks-outside next after.objects.works (reverse after.waiting.items) after.objects ready.ready asked reaches;
 }

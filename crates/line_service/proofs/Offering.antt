@@ -43,6 +43,16 @@ module _ (v : View) (i : Input) (q : Ask) (asked : outside_question (question_of
   pub refused-taken : {R : Type 0} (r : Result R OfferFault) (fd : ℕ) → (r ≡ Err (faults.Taken fd)) ↔ (taken_by (question_of v) v.pool i ≡ Some fd) → (r ≡ Err (faults.Taken fd)) ↔ (taken_by (outside_question (question_of v)) v.pool i ≡ Some fd)
   refused-taken r fd h = (λ e. same-taken ∙ h.0 e, λ e. h.1 (sym same-taken ∙ e))
 
+-- a fault is the same whatever else there might have been
+same-fault : {A B : Type 0} (f g : OfferFault) → (let r : Result A OfferFault = Err f in r) ≡ Err g → (let r : Result B OfferFault = Err f in r) ≡ Err g
+same-fault f g e = let same : f ≡ g = cc in ap Err same
+
+pub fault-passed : {A B X : Type 0} (f g : OfferFault) → ((let r : Result A OfferFault = Err f in r) ≡ Err g) ↔ X → ((let r : Result B OfferFault = Err f in r) ≡ Err g) ↔ X
+fault-passed f g h = (λ e. h.0 (same-fault f g e), λ x. same-fault f g (h.1 x))
+
+pub fault-was : {A B : Type 0} (f g : OfferFault) → (let r : Result A OfferFault = Err f in r) ≡ Err g → (let r : Result B OfferFault = Err f in r) ≡ Err g
+fault-was f g e = same-fault f g e
+
 -- ---- of a station, by its parts
 
 module _ (s : StationView) (d : Knowledge) (v : View) (due : Option Task) (n : ℕ) (is : seen d v due n ≡ s) (i : Input) where

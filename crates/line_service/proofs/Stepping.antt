@@ -174,6 +174,7 @@ asks-outside (frame.Outside (Reaching q)) h = each q (h q refl)
 asks-outside _ h = tt
 
 pub passes : (s s' : StationView) (q : Ask) (i : Input) → s.due ≡ None → asked_of s ≡ Some q → Waits s.host → promises.TakesAnswer s.host i s'.host → s'.left ≡ s.left + 4194303 → s'.knows ≡ changed (change_of q i) s.knows → s'.due ≡ None → TakesAnswer s i s'
+unfolding is-asked
 passes s s' q i none asked waits taken left knows none' =
     let o = not-own s.knows s.host (question_of s.host) q asked in
     let b = opens s.host waits q o.0 in

@@ -3,7 +3,7 @@ use Rattle.std.proofs.lemmas.Result.{err_from_is_err_and}
 use Rattle.host_core.specs.declared.fault.OfferFault.{OfferFault}
 use Rattle.line_service.specs.Steps.{StraysAt}
 use Rattle.line_service.specs.Runs.{changed}
-use Rattle.line_service.proofs.Offering.{refused-not-asked, refused-taken, station-not-asked, station-strays, station-takes, station-taken}
+use Rattle.line_service.proofs.Offering.{fault-passed, fault-was, refused-not-asked, refused-taken, station-not-asked, station-strays, station-takes, station-taken}
 use Rattle.line_service.proofs.station.Station.offer.Goals as goal
 
 -- ---- the host found no memory, or refuses it
@@ -47,12 +47,12 @@ returns-in_ok-offer-in-Ok-clause-taken c = λ fd.
 
 pub returns-in-Err-clause-not_asked : goal.returns-in-Err-clause-not_asked
 returns-in-Err-clause-not_asked c =
-    station-not-asked c.args.self.now c.self.inside.desk.knowledge c.self.inside.host c.self.inside.desk.due c.self.inside.left c.self.view_is c.args.input (Err c.in-Err.fault) c.in-Err.ensures.not_asked
+    station-not-asked c.args.self.now c.self.inside.desk.knowledge c.self.inside.host c.self.inside.desk.due c.self.inside.left c.self.view_is c.args.input (Err c.in-Err.fault) (fault-passed c.in-Err.fault OfferFault.NotAsked c.in-Err.ensures.not_asked)
 
 pub returns-in-Err-clause-taken : goal.returns-in-Err-clause-taken
 returns-in-Err-clause-taken c = λ fd.
-    station-taken c.args.self.now c.self.inside.desk.knowledge c.self.inside.host c.self.inside.desk.due c.self.inside.left c.self.view_is c.args.input (Err c.in-Err.fault) fd (c.in-Err.ensures.taken fd)
+    station-taken c.args.self.now c.self.inside.desk.knowledge c.self.inside.host c.self.inside.desk.due c.self.inside.left c.self.view_is c.args.input (Err c.in-Err.fault) fd (fault-passed c.in-Err.fault (OfferFault.Taken fd) (c.in-Err.ensures.taken fd))
 
 pub returns-in-Err-clause-strays : goal.returns-in-Err-clause-strays
 returns-in-Err-clause-strays c = λ fd e.
-    station-strays c.args.self.now c.self.inside.desk.knowledge c.self.inside.host c.self.inside.desk.due c.self.inside.left c.self.view_is c.args.input c.self.invariant (c.in-Err.ensures.strays fd e)
+    station-strays c.args.self.now c.self.inside.desk.knowledge c.self.inside.host c.self.inside.desk.due c.self.inside.left c.self.view_is c.args.input c.self.invariant (c.in-Err.ensures.strays fd (fault-was c.in-Err.fault (OfferFault.Taken fd) e))
