@@ -1,7 +1,7 @@
 //! `host_main`: what the program does, from its words to its status.
 ghost use Rattle.std.specs.Prelude.{◌≡◌, ◌≢◌, ◌≤◌, ◌⊎◌, ℕ, None, Some, IfSome};
 ghost use Rattle.tree_specs.specs.declared.schedule.Reason.{Reason};
-ghost use Rattle.tree_specs.specs.Texts.Schedule.{judge};
+ghost use Rattle.service_rules.specs.Schedules.{judge};
 ghost use Rattle.outside.specs.Causes.{Rose};
 ghost use Rattle.schedule_replay.specs.Runs.{IsDone, IsBad, IsCutShort, IsFrontOf};
 ghost use Rattle.schedule_replay.specs.Stories.{WritesStory};
@@ -43,13 +43,14 @@ pub fn host_main<S: Source, K: Sink, E: Sink>(
     ensures bad { (line : ℕ) (reason : Reason) → result ≡ Status.BadSchedule line reason → IfSome (S.left input.old) (λ bytes. IsBad bytes line reason (K.held out.old) (K.held out.new)) }
     ensures bad_words { (line : ℕ) (reason : Reason) → result ≡ Status.BadSchedule line reason → names words.now ≡ Some Command.Replay }
 
-    // The story whose transcript that is: a destructor accepts at most once in it, every freed object with a destructor
-    // had it accept, nothing starts for a freed object, and to free a live object is refused only while it is held,
-    // running or refused.
+    // The story whose transcript that is, of a host or of a line service, as the first line says: a destructor accepts at
+    // most once in it, every freed object with a destructor had it accept, nothing starts for a freed object, and to free
+    // a live object is refused only while it is held, running or refused.
     ensures story { names words.now ≡ Some Command.Replay → result ≡ Status.Done → IfSome (S.left input.old) (λ bytes. WritesStory bytes (K.held out.old) (K.held out.new)) }
     ensures story_before { (line : ℕ) (reason : Reason) → result ≡ Status.BadSchedule line reason → line ≢ 1 → IfSome (S.left input.old) (λ bytes. WritesStory bytes (K.held out.old) (K.held out.new)) }
 
-    // After a fault, and when memory runs out, a prefix of the transcript has been written.
+    // After a fault, and when memory runs out, a prefix of the transcript has been written. A service that would give
+    // more answers than it may is without memory, and its schedule has no transcript.
     ensures read_fault { result ≡ Status.ReadFault → Rose (S.faults input.old) (S.faults input.new) }
     ensures read_cut { result ≡ Status.ReadFault → IfSome (S.left input.old) (λ bytes. IsCutShort bytes (S.left input.new) (K.held out.old) (K.held out.new)) }
     ensures write_fault { result ≡ Status.WriteFault → Rose (K.faults out.old) (K.faults out.new) }

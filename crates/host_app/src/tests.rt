@@ -19,6 +19,13 @@ const REPORTING: &[u8] =
 const REPORTED: &[u8] =
     b"tv transcript 1\nreply 1\nreply ok\nask hook 1 16 0 0 0 0\nrow 0 0 root 0 0 0 null_context\nrow 1 1 plain 8 0 0 a\nreply rows 2\nask hook 1 16 0 0 0 1\nreply 8\nask hook 1 16 0 0 0 2\naccepted 1\nfreed 1 16\nreply ok\nend quiet\n";
 
+// Two clients connect to the line service, and the first one sends a line, and a part of another.
+const CLIENTS: &[u8] =
+    b"tv schedule 1 service\nready 0:1\ntook 1\nready 0:1\ntook 2\nready 1:1\ngot 31206e65772030203520610a3220736c65\nwrote 4\n";
+
+const CLIENTS_SERVED: &[u8] =
+    b"tv transcript 1\nask wait 30000000\nfired fd 2 1\nask accept 0\nask wait 30000000\nfired fd 2 1\nask accept 0\nask wait 30000000\nfired fd 4 2\nask read 1 4096\nask write 1 3120390a\nend wait 30000000\n";
+
 /// A run of the word `replay`: what it answered, wrote and said.
 #[derive(Drop)]
 struct Answer {
@@ -108,6 +115,14 @@ fn each_schedule_has_its_transcript_or_its_first_refused_line(rt: HostRuntime) -
             b"tv schedule 1 pool\nret 0\n",
             refused(2, Reason::NotAsked),
             NOTHING,
+            b"line 2: not asked\n",
+        ),
+        (CLIENTS, Status::Done, CLIENTS_SERVED, b""),
+        // a service begins its turns itself
+        (
+            b"tv schedule 1 service\ncall turn\n",
+            refused(2, Reason::NotAsked),
+            b"tv transcript 1\nend wait 30000000\n",
             b"line 2: not asked\n",
         ),
     ];

@@ -1,5 +1,5 @@
 -- What an answer to the open question leads to.
-use Rattle.std.proofs.Common.{Result, Err, IsErrAnd, ◌≡◌, List, ◌∷◌, reverse, Option, Some, None, true, false, refl, sym, ◌∙◌, ap, subst}
+use Rattle.std.proofs.Common.{Result, Err, IsErrAnd, ◌≡◌, List, [], ◌∷◌, reverse, Option, Some, None, true, false, refl, sym, ◌∙◌, ap, subst}
 use Rattle.std.specs.Prelude.{is_none, is_some}
 use Rattle.std.specs.Option.{option_map}
 use Rattle.step_machine.specs.Machine.{Move as Do}
@@ -19,6 +19,7 @@ use Rattle.tree_specs.specs.declared.frame.Frame.{Frame}
 use Rattle.tree_specs.specs.declared.frame.Frame.TheVariants as frame
 use Rattle.tree_specs.specs.declared.frame.TurnFrame.{TurnFrame}
 use Rattle.tree_specs.specs.declared.frame.TurnFrame.TheVariants.{Timing, Polling}
+use Rattle.tree_specs.specs.declared.frame.FreeFrame.{FreeFrame}
 use Rattle.tree_specs.specs.declared.frame.OutsideFrame.TheVariants.{Reaching}
 use Rattle.tree_specs.specs.declared.frame.CallFrame.{CallFrame}
 use Rattle.tree_specs.specs.declared.frame.CallFrame.TheVariants.{Asking, Doing, Telling}
@@ -48,16 +49,18 @@ use Rattle.host_core.specs.declared.owned_reply.OwnedReply.{OwnedReply}
 use Rattle.host_core.specs.declared.parts.Parts.{Parts}
 use Rattle.host_core.specs.declared.caller.Caller.{Caller}
 use Rattle.host_core.specs.Callers.{frame_of, staged, open_at, remembers}
-use Rattle.host_core.specs.Stacks.{active_frame}
+use Rattle.host_core.specs.declared.waiting.Waiting.{Waiting}
+use Rattle.host_core.specs.Stacks.{active_frame, seen}
 use Rattle.host_core.specs.Moves.{report_of, call_of, reported}
 use Rattle.host_core.specs.Promises.{Waits, TakesAnswer, taken_in}
 use Rattle.machine_driver.specs.Seen.{sight}
 use Rattle.tree_stories.specs.Sights.{Sight, sights_of}
 use Rattle.tree_stories.proofs.Seeing.{question-seen}
+use Rattle.tree_stories.proofs.Strays.{question-strays}
 use Rattle.host_core.specs.Reaches.{outside_given, IsOutside}
 use Rattle.host_core.specs.Turns.{turn_asks, turn_given, frame_ready}
 use Rattle.host_core.specs.Hosts.{host_view, below_in, given_view, called_view, speaking_view, caller_asked, asked_now, begins_with, PartsReady, IsBetweenSteps, IsActing, TellsSameStory, IsReplyOf, IsCopy, IsReport}
-use Rattle.host_core.proofs.StepsSilently.{onward, question-strays, waits-at, waits-asked, always-more}
+use Rattle.host_core.proofs.StepsSilently.{onward, waits-at, waits-asked, always-more}
 use Rattle.host_core.proofs.Answering.{IsForCaller, caller-kind, turn-acts-not, outside-acts-not}
 use Rattle.host_core.proofs.Reaching.{outside-answered, no-reason}
 use Rattle.host_core.proofs.Speaking.{question_seen}
@@ -335,9 +338,17 @@ pub waits-some : {R : Type 0} (v : R → Ask) (lent : Option R) (now : Active) (
 waits-some v None now parts h e s = cc
 waits-some v (Some r) now parts h e s = waits-now now parts (v r) (sym e) h
 
+-- what waits for the outside has asked it what the outside is asked
+asks-outside : (now : Active) (fs : List FreeFrame) (ws : List Waiting) (objects : Objects) → PartsReady now objects → (q : Ask) → (seen now fs ws objects.pool).innermost ≡ frame.Outside (Reaching q) → IsOutside q
+asks-outside (active.Reaching asked) fs ws objects ready q e = let e' : asked ≡ q = cc in subst IsOutside e' ready
+asks-outside active.Freeing [] ws objects ready q e = cc
+asks-outside active.Freeing (f ∷ fs) ws objects ready q e = cc
+asks-outside _ fs ws objects ready q e = cc
+
 -- the answer was taken, and the story goes on after the steps that tell nothing
-pub takes-answer : (v : View) (now : Active) (parts : Parts) (i : Input) (q : Ask) (w w' : View) → IsBetweenSteps now parts → speaking_view (host_view now parts) ≡ true → host_view now parts ≡ v → Offered now parts i q w → TellsSameStory w w' → TakesAnswer v i w'
-takes-answer v now parts i q w w' b s e o a = record {
+pub takes-answer : (v : View) (now : Active) (parts : Parts) (i : Input) (q : Ask) (w : View) (next : Active) (after : Parts) → IsBetweenSteps now parts → speaking_view (host_view now parts) ≡ true → host_view now parts ≡ v → Offered now parts i q w
+    → TellsSameStory w (host_view next after) → IsBetweenSteps next after → TakesAnswer v i (host_view next after)
+takes-answer v now parts i q w next after b s e o a ready = let w' : View = host_view next after in record {
   question = q;
   open_before = question-view v now parts b s e ∙ o.open_before;
   fits = ap (λ (z : Option Ask). misfit z i) (question-view v now parts b s e) ∙ o.fits;
@@ -347,4 +358,6 @@ takes-answer v now parts i q w w' b s e o a = record {
       ∙ ap (λ (z : View). sight z.pool (Asked q) ∷ sights_of w' is) e;
   strays = λ is. ap (λ (z : View). strays_of z (i ∷ is)) (sym e) ∙ o.strays is ∙ a.strays is;
   more = λ is. always-more w' is a.whole;
+  whole = a.whole;
+  outside = λ asked reaches. asks-outside next after.objects.works (reverse after.waiting.items) after.objects ready.ready asked reaches;
 }

@@ -90,7 +90,7 @@ module _ (v : View) (now : Active) (parts : Parts) (c : Call) (b : IsBetweenStep
 
     -- it goes on
     pub quiet-begun : (next : Active) (after : Parts) → ComesTo (called_view Quiet (input.Call c) new) next after → TakesCall v c None (host_view next after)
-    quiet-begun next after come = takes-answer v now parts (input.Call c) Quiet _ _ b s is quiet-offered (subst (λ (z : View). TellsSameStory z (host_view next after)) (same Quiet) come.along)
+    quiet-begun next after come = takes-answer v now parts (input.Call c) Quiet _ next after b s is quiet-offered (subst (λ (z : View). TellsSameStory z (host_view next after)) (same Quiet) come.along) come.ready
 
     -- it is replied to
     module _ (reply : ShortReply) (after : Parts) (come : (next : Active) → active_frame next ≡ frame.Call (telling Quiet reply) → ComesTo (called_view Quiet (input.Call c) new) next after) where

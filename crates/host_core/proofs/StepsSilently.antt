@@ -1,8 +1,7 @@
 -- One step of a host after another, and what stands after it.
 use Rattle.std.proofs.Common.{◌≡◌, ℕ, ◌+◌, ◌≤◌, ◌<◌, List, [], ◌∷◌, length, Option, Some, None, true, false, refl, sym, ◌∙◌, ap, subst, arith}
-use Rattle.step_machine.specs.Machine.{Move, Outcome, State, silent, tell, given, leads, walk, is_stray, items as told_by}
+use Rattle.step_machine.specs.Machine.{Move, Outcome, State, silent, given, leads, walk, is_stray, items as told_by}
 use Rattle.step_machine.specs.Machine.{Move as Do}
-use Rattle.step_machine.specs.Machine.Outcome.{Ended, Waits as Waiting, Stray, Short}
 use Rattle.step_machine.specs.Open.{LastIs}
 use Rattle.step_machine.proofs.Ends.{rest-step, silent-leads}
 use Rattle.tree_specs.specs.declared.event.Event.{Event}
@@ -25,10 +24,11 @@ use Rattle.tree_specs.proofs.Rules.StoryLaws.{begin-whole}
 use Rattle.tree_specs.proofs.Turns.Lowering.{Room}
 use Rattle.tree_specs.proofs.Turns.Bound.{cost-turns}
 use Rattle.tree_specs.proofs.Turns.Falls.{Well, lower, falls}
-use Rattle.tree_specs.proofs.Rules.Rest.{most, well, event-whole, event-law, event-items, question-law, open-law, open-items, begins-items, ends-asked, silent-whole, silent-law, no-end, view_of_state}
+use Rattle.tree_specs.proofs.Rules.Rest.{most, well, event-whole, event-items, open-law, open-items, begins-items, ends-asked, silent-whole, silent-law, no-end, view_of_state}
 use Rattle.machine_driver.specs.Seen.{sight}
 use Rattle.tree_stories.specs.Sights.{Sight, sights_of}
-use Rattle.tree_stories.proofs.Seeing.{event-seen, silent-seen, begins-seen}
+use Rattle.tree_stories.proofs.Seeing.{event-seen, silent-seen, begins-seen, open-seen}
+use Rattle.tree_stories.proofs.Strays.{event-strays, silent-strays}
 use Rattle.host_core.specs.Promises.{Waits}
 use Rattle.host_core.specs.Hosts.{speaks, moved, next_of, speaking_view, TellsSameStory, StepsSilently}
 
@@ -57,7 +57,7 @@ silent-onward v s h e = record {
     no_dearer = λ R r. (let l = (lowered R r).1 in omega arith);
     same = λ is. ap told_by (silent-law v s is h e);
     seen = λ is. silent-seen v s is h e;
-    strays = λ is. ap is_stray (silent-law v s is h e);
+    strays = λ is. silent-strays v s is h e;
   };
   cheaper = λ R r. (lowered R r).1;
 }
@@ -92,19 +92,6 @@ onward-along u v w o b = record {
 }
 
 -- ---- whether the last input fits
-
-stray-tell : (i : Item) (o : Outcome Answer Pool Input Item) → is_stray (tell i o) ≡ is_stray o
-stray-tell i (Ended a p ts is) = refl
-stray-tell i (Waiting ts) = refl
-stray-tell i (Stray ts) = refl
-stray-tell i Short = refl
-
-event-strays : (v : View) (e : Item) (f : Frame) (p : Pool) (is : List Input) → IsConsistent v → step v.innermost v.pool ≡ Do.Emit e f p → strays_of v is ≡ strays_of (record { innermost = f; below = v.below; pool = p }) is
-event-strays v e f p is h is-emit = ap is_stray (event-law v e f p is h is-emit) ∙ stray-tell e _
-
-pub question-strays : (v : View) (q : Item) (f g : Frame) (p : Pool) (i : Input) (is : List Input) → IsConsistent v → step v.innermost v.pool ≡ Do.Wait q f p → taken f p i ≡ Some g
-    → strays_of v (i ∷ is) ≡ strays_of (record { innermost = g; below = v.below; pool = p }) is
-question-strays v q f g p i is h is-wait fits = ap is_stray (question-law v q f g p i is h is-wait fits) ∙ stray-tell q _
 
 -- an answer that a question doesn't take is the one that doesn't fit
 pub untaken-strays : (v : View) (q : Item) (f : Frame) (p : Pool) (i : Input) → IsConsistent v → step v.innermost v.pool ≡ Do.Wait q f p → taken f p i ≡ None → strays_of v (i ∷ []) ≡ true
@@ -162,6 +149,7 @@ waits-at v q h e = record {
   last = open-items v (Asked q) v.innermost v.pool h e;
   begins = λ is. begins-items v (Asked q) v.innermost v.pool is h e;
   begins_seen = λ is. begins-seen v (Asked q) v.innermost v.pool is h e;
+  last_seen = open-seen v (Asked q) v.innermost v.pool h e;
   fits = ap is_stray (open-law v (Asked q) v.innermost v.pool h e);
 }
 

@@ -91,4 +91,4 @@ module _ (now : Active) (parts : Parts) (i : Input) (b : IsBetweenSteps now part
       let q = wanted_by in
       let given = offered-report now parts i b fits s q.0 o r q.1 wants is in
       let stands = stands_at after (Telling (remembers q.0 r.copy) r.reply) parts (tells q.0 q.1) (asked-fit now parts q.0 given.open_before b) given.whole in
-      (stands.ready, stands.speaks, takes-answer v now parts i q.0 _ _ b speaks same given stands.along)
+      (stands.ready, stands.speaks, takes-answer v now parts i q.0 _ after parts b speaks same given stands.along stands.ready)

@@ -243,9 +243,10 @@ impl Host {
         }
     }
 
-    /// Refuses an answer that may not be given: NotAsked comes exactly where no question is open or the open one takes
-    /// no such answer, and Taken exactly where the descriptor that was accepted is open already.
-    fn check(&self, input: &Input) -> Result<(), OfferFault>
+    /// Refuses an answer that may not be given, as `offer` does: NotAsked comes exactly where no question is open or the
+    /// open one takes no such answer, and Taken exactly where the descriptor that was accepted is open already. It takes
+    /// no memory.
+    pub fn check(&self, input: &Input) -> Result<(), OfferFault>
         ensures fits { OnOk result (misfit (question_of self.now) input.now ≡ None) }
         ensures unopened { OnOk result (taken_in self.now.pool input.now ≡ None) }
         ensures not_asked { (result ≡ Err OfferFault.NotAsked) ↔ (misfit (question_of self.now) input.now ≡ Some reasons.NotAsked) }
@@ -304,6 +305,7 @@ impl Host {
     /// the caller is asked again; otherwise `next` gives what comes. It is the same as to offer the call and to take
     /// the reply, for less. All memory up to the next question is taken first, and where it runs out the host is as it
     /// was.
+    #[inline(always)]
     pub fn call(&mut self, call: Call) -> Result<Option<Reply>, Memory>
         requires asked { question_of self.old ≡ Some Quiet }
         requires sound { IsTrue (is_sound_call call) }

@@ -2,7 +2,7 @@
 use Rattle.std.specs.Prelude.{◌≡◌, ℕ, List, Option, Some, Result}
 use Rattle.outside.specs.Outputs.{PutsAll}
 use Rattle.outside.specs.declared.output.PutError.{PutError}
-use Rattle.tree_specs.specs.Texts.Schedule.{transcript_of}
+use Rattle.service_rules.specs.Schedules.{transcript_of}
 use Rattle.tree_specs.specs.Texts.Load.{load_schedule, five_lines}
 
 -- The five lines of the transcript of the schedule that is made from a number have been put, or at an error a prefix of them.

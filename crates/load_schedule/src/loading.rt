@@ -3,7 +3,7 @@ ghost use Rattle.std.specs.Prelude.{◌≡◌, ◌+◌, ◌≤◌, Err, Some, If
 ghost use Rattle.outside.specs.Causes.{Counts};
 ghost use Rattle.load_schedule.specs.Loads.{PutsFiveLines};
 ghost use Rattle.tree_specs.specs.Texts.Lines.{lines_limit};
-ghost use Rattle.tree_specs.specs.Texts.Schedule.{transcript_of};
+ghost use Rattle.service_rules.specs.Schedules.{transcript_of};
 ghost use Rattle.tree_specs.specs.Texts.Load.{load_schedule};
 
 use crate::source::LoadSource;

@@ -2,6 +2,7 @@ pub mod Driving
 pub mod More
 pub mod Allowing
 pub mod Listening
+pub mod Fitting
 pub mod LeavingOut
 pub mod Logging
 pub mod SeenLaws

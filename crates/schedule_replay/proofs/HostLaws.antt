@@ -1,5 +1,5 @@
 -- A host as whoever runs lines by it sees it.
-use Rattle.std.proofs.Common.{◌≡◌, ℕ, ◌<◌, true, false, List, [], ◌∷◌, ◌++◌, length, Option, Some, None, Result, Ok, Err, OnOk, refl, sym, ap, subst, ◌∙◌, arith}
+use Rattle.std.proofs.Common.{◌≡◌, ℕ, true, false, List, [], ◌∷◌, ◌++◌, Option, Some, None, Result, Ok, Err, OnOk, refl, sym, ap, subst, ◌∙◌}
 use Rattle.std.proofs.lemmas.List.{append-nil}
 use Rattle.tree_specs.specs.declared.call.Call.{Call}
 use Rattle.tree_specs.specs.declared.event.Event.{Event}
@@ -12,12 +12,12 @@ use Rattle.tree_specs.specs.declared.reply.Reply.{Reply}
 use Rattle.tree_specs.specs.declared.schedule.Reason.{Reason}
 use Rattle.tree_specs.specs.declared.schedule.Reason.TheVariants.{NotAsked, Token}
 use Rattle.tree_specs.specs.Rules.Items.{Item}
-use Rattle.tree_specs.specs.Rules.Items.Item.{Told, Asked}
 use Rattle.tree_specs.specs.Machine.View.{View, rest_of, strays_of, question_of}
 use Rattle.tree_specs.specs.Texts.Runners.{unless_stray}
 use Rattle.tree_specs.specs.Texts.Schedule.{misfit, open_question}
-use Rattle.tree_specs.specs.Texts.Text.{event_text, answered_text, reply_text, item_text, end_text, body_text}
+use Rattle.tree_specs.specs.Texts.Text.{event_text, answered_text, reply_text, body_text}
 use Rattle.host_core.specs.declared.fault.OfferFault.{OfferFault}
+use Rattle.tree_stories.proofs.Strays.{unanswered}
 use Rattle.host_core.specs.Promises as promises
 use Rattle.host_core.proofs.Reaching.{no-reason}
 use Rattle.host_core.proofs.Straying.{taken-fits}
@@ -25,36 +25,8 @@ use Rattle.schedule_replay.specs.Hosts.{host_standing, CallsAtOnce}
 use Rattle.schedule_replay.specs.Questions.{answered_of}
 use Rattle.schedule_replay.specs.Replays.{behind}
 use Rattle.schedule_replay.specs.Standings.{Waits, Follows, once, unfit, TakesInput, Nexts}
-use Rattle.schedule_replay.proofs.RunLaws.{follows-none, follows-then}
-use Rattle.schedule_replay.proofs.Unanswered.{unanswered}
-
--- ---- items
-
-told-first : (e : Event) (l : List Item) → body_text (Told e ∷ l) ≡ behind (event_text e) (body_text l)
-unfolding body_text item_text
-told-first e [] = refl
-told-first e (j ∷ rest) = refl
-
-question-told : (e : Event) (l : List Item) → open_question (Told e ∷ l) ≡ open_question l
-unfolding open_question
-question-told e [] = refl
-question-told e (j ∷ rest) = refl
-
-asked-first : (q : Ask) (l : List Item) (j : Item) (rest : List Item) → l ≡ j ∷ rest → body_text (Asked q ∷ l) ≡ behind (answered_text q) (body_text l)
-unfolding body_text item_text
-asked-first q l j rest e = rw e refl
-
-question-asked : (q : Ask) (l : List Item) (j : Item) (rest : List Item) → l ≡ j ∷ rest → open_question (Asked q ∷ l) ≡ open_question l
-unfolding open_question
-question-asked q l j rest e = rw e refl
-
-last-question : (q : Ask) → open_question (Asked q ∷ []) ≡ Some q
-unfolding open_question
-last-question q = refl
-
-last-text : (q : Ask) → body_text (Asked q ∷ []) ≡ Some (end_text q)
-unfolding body_text
-last-text q = refl
+use Rattle.schedule_replay.proofs.ItemLaws.{told-first, question-told, asked-first, question-asked, last-question, last-text}
+use Rattle.schedule_replay.proofs.RunLaws.{follows-none, follows-then, on-ok, why-now}
 
 -- ---- the open question, and what is told
 
@@ -68,27 +40,20 @@ next-told v w e h = record {
   strays = h.2;
 }
 
-next-less : (v w : View) (e : Event) → promises.NextLaw (Some e) v w → length (rest_of w []) < length (rest_of v [])
-next-less v w e h = let n = ap length (h.1 []) in omega (arith, n)
-
 next-none : (v w : View) → promises.NextLaw None v w → Follows [] (host_standing v) (host_standing w) × Waits (host_standing w)
 next-none v w h = subst (λ (u : View). Follows [] (host_standing v) (host_standing u) × Waits (host_standing u)) (sym h.1) (follows-none (host_standing v), host_waits v h.0)
 
 -- ---- an answer that was taken
 
--- why an input doesn't fit, by the question that is open
-why-now : (v : View) → Waits (host_standing v) → (i : Input) (o : Option Reason) → misfit (question_of v) i ≡ o → unfit misfit (host_standing v) i ≡ unless_stray o (strays_of v (i ∷ []))
-why-now v w i o m = ap (λ (z : Option Reason). unless_stray z (strays_of v (i ∷ []))) (ap (λ (q : Option Ask). misfit q i) (w.open_now ∙ sym w.asked_now) ∙ m)
-
 pub not-asked : (v : View) → Waits (host_standing v) → (i : Input) → misfit (question_of v) i ≡ Some NotAsked → unfit misfit (host_standing v) i ≡ Some NotAsked
-not-asked v w i m = why-now v w i (Some NotAsked) m
+not-asked v w i m = why-now misfit (host_standing v) w i (Some NotAsked) m
 
 -- it was asked for, and yet doesn't fit
 pub taken-token : (v : View) → Waits (host_standing v) → (i : Input) (fd : ℕ) → promises.taken_by (question_of v) v.pool i ≡ Some fd → strays_of v (i ∷ []) ≡ true → unfit misfit (host_standing v) i ≡ Some Token
-taken-token v w i fd t s = why-now v w i None (no-reason (misfit (question_of v) i) (taken-fits (question_of v) v.pool i fd t)) ∙ ap (unless_stray None) s
+taken-token v w i fd t s = why-now misfit (host_standing v) w i None (no-reason (misfit (question_of v) i) (taken-fits (question_of v) v.pool i fd t)) ∙ ap (unless_stray None) s
 
 fits-now : (v w : View) (i : Input) → Waits (host_standing v) → promises.TakesAnswer v i w → unfit misfit (host_standing v) i ≡ None
-fits-now v w i ready taken = why-now v ready i None taken.fits ∙ ap (unless_stray None) (taken.strays [] ∙ unanswered w)
+fits-now v w i ready taken = why-now misfit (host_standing v) ready i None taken.fits ∙ ap (unless_stray None) (taken.strays [] ∙ unanswered w)
 
 follows-answer : (v w : View) (i : Input) → promises.TakesAnswer v i w → Follows (answered_of (question_of v)) (once i (host_standing v)) (host_standing w)
 follows-answer v w i taken = record {
@@ -133,11 +98,7 @@ calls-replied v w c r before after ready quiet h e = record {
 
 pub host_next : (o : Option Event) (v w : View) → promises.NextLaw o v w → Nexts event_text (Ok o) (host_standing v) (host_standing w)
 host_next None v w h = next-none v w h
-host_next (Some e) v w h = (next-told v w e h, next-less v w e h)
-
-pub on-ok : {E A B : Type 0} (r : Result (Unit {0}) E) → (A → B) → OnOk r A → OnOk r B
-on-ok (Ok done) f h = f h
-on-ok (Err e) f h = tt
+host_next (Some e) v w h = next-told v w e h
 
 pub host_takes : (r : Result (Unit {0}) OfferFault) (v w : View) (i : Input) → Waits (host_standing v) → OnOk r (promises.TakesAnswer v i w) → OnOk r (TakesInput misfit (host_standing v) i (host_standing w))
 host_takes r v w i ready h = on-ok r (takes-input v w i ready) h

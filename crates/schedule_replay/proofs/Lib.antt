@@ -1,8 +1,9 @@
 pub mod TextLaws
 pub mod RunLaws
 pub mod PlayLaws
-pub mod Unanswered
+pub mod ItemLaws
 pub mod HostLaws
+pub mod StationLaws
 pub mod WholeLaws
 pub mod StageLaws
 pub mod SessionLaws

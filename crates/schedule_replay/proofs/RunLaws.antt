@@ -1,5 +1,5 @@
 -- Running lines by a machine, whatever it is.
-use Rattle.std.proofs.Common.{◌≡◌, ℕ, ◌+◌, ◌≤◌, Bool, true, false, ltb, ◌||◌, List, [], ◌∷◌, ◌++◌, length, Option, Some, None, Result, Ok, Err, refl, sym, ap, subst, ◌∙◌, append_assoc, arith}
+use Rattle.std.proofs.Common.{◌≡◌, ℕ, ◌+◌, ◌≤◌, Bool, true, false, ltb, ◌||◌, List, [], ◌∷◌, ◌++◌, length, Option, Some, None, Result, Ok, Err, OnOk, refl, sym, ap, subst, ◌∙◌, append_assoc, arith}
 use Rattle.std.proofs.lemmas.List.{append-nil}
 use Rattle.std.proofs.lemmas.Bool.Decides.{nat_tests}
 use Rattle.tree_specs.specs.declared.memory.Memory.{Memory}
@@ -7,7 +7,7 @@ use Rattle.tree_specs.specs.declared.question.Ask.{Ask}
 use Rattle.tree_specs.specs.declared.schedule.Reason.{Reason}
 use Rattle.tree_specs.specs.declared.schedule.Reason.TheVariants.{Limit, Form}
 use Rattle.tree_specs.specs.Texts.Lines.{Line, is_over_limit, line_limit, lines_limit}
-use Rattle.tree_specs.specs.Texts.Runners.{Course, Runner, Judged, once_given, fitting, ok_unless, why_not, line_input, judged_one, judged_from}
+use Rattle.tree_specs.specs.Texts.Runners.{Course, Runner, Judged, once_given, fitting, ok_unless, unless_stray, why_not, line_input, judged_one, judged_from}
 use Rattle.tree_specs.specs.Texts.Text.{end_text}
 use Rattle.tree_specs.specs.Texts.Written.{WritesFront}
 use Rattle.line_pieces.specs.Cuts.{ended_line}
@@ -15,6 +15,12 @@ use Rattle.schedule_replay.specs.Questions.{answered_of}
 use Rattle.schedule_replay.specs.Replays.{Replayed, behind, with_front, replayed_lines, BeginsText}
 use Rattle.schedule_replay.specs.Standings.{Standing, runner_of, Waits, Follows, once, unfit, TakesInput, TellsAll, TellsFront}
 use Rattle.schedule_replay.proofs.TextLaws.{behind-behind, behind-nil, begins_behind, begins_front, begins_it}
+
+-- ---- results
+
+pub on-ok : {E A B : Type 0} (r : Result (Unit {0}) E) → (A → B) → OnOk r A → OnOk r B
+on-ok (Ok done) f h = f h
+on-ok (Err e) f h = tt
 
 -- ---- the limits
 
@@ -25,6 +31,11 @@ not-over n line low short =
     rw (a, b) refl
 
 module _ {J : Type 0} where
+  -- ---- why an input doesn't fit, by the question that is open
+
+  pub why-now : (misfit : Option Ask → J → Option Reason) (s : Standing J) → Waits s → (j : J) (o : Option Reason) → misfit s.asked j ≡ o → unfit misfit s j ≡ unless_stray o (s.course.strays (j ∷ []))
+  why-now misfit s w j o m = ap (λ (z : Option Reason). unless_stray z (s.course.strays (j ∷ []))) (ap (λ (q : Option Ask). misfit q j) (w.open_now ∙ sym w.asked_now) ∙ m)
+
   -- ---- what follows what
 
   pub follows-none : (s : Standing J) → Follows [] s s

@@ -19,10 +19,11 @@ use Rattle.line_pieces.specs.Readings.{Reading, from_line, found_now, Advances, 
 use Rattle.line_pieces.specs.Takings.{EndsWith}
 use Rattle.line_pieces.proofs.Feeding.{after-piece, no-bytes}
 use Rattle.schedule_replay.specs.declared.stage.Stage.{Stage}
-use Rattle.schedule_replay.specs.declared.stage.Stage.TheVariants.{Header, Pool}
+use Rattle.schedule_replay.specs.declared.stage.Stage.TheVariants.{Header, Pool, Service}
 use Rattle.schedule_replay.specs.declared.stop.Stop.{Stop}
 use Rattle.schedule_replay.specs.declared.stop.Stop.TheVariants as errors
 use Rattle.schedule_replay.specs.Hosts.{host_standing}
+use Rattle.schedule_replay.specs.Stations.{station_standing}
 use Rattle.schedule_replay.specs.Passes.{stop_of_put, StopsPut, IsFresh, Passed, PassesPiece, TakesEnd, PassesEnd}
 use Rattle.schedule_replay.specs.Replays.{Replayed, behind, with_front, replayed_lines, BeginsText, StopsWith}
 use Rattle.schedule_replay.specs.Runs.{Replays, ran_of, IsCutShort, IsCutTranscript}
@@ -244,6 +245,9 @@ cut-text (Header alloc) n whole text first empty begun e = at-first whole text (
 cut-text (Pool play) n whole text waits empty begun e =
     let r : Replayed = replayed_lines (runner_of input_of misfit (host_standing play.machine)) n [] in
     later whole text waits.question (e ∙ ap (λ (l : List ℕ). with_front text (with_front l r)) empty ∙ ap (with_front text) (sym (front-nil r) ∙ no-more input_of misfit (host_standing play.machine) waits n))
+cut-text (Service play) n whole text waits empty begun e =
+    let r : Replayed = replayed_lines (runner_of input_of misfit (station_standing play.machine)) n [] in
+    later whole text waits.question (e ∙ ap (λ (l : List ℕ). with_front text (with_front l r)) empty ∙ ap (with_front text) (sym (front-nil r) ∙ no-more input_of misfit (station_standing play.machine) waits n))
 
 pub so-far-cut : (l0 l1 l2 h0 h1 : Option (List ℕ)) (t : Reading Stage) → IsBetweenBytes ready t → text_in t.taker ≡ [] → SoFar l0 l1 h0 h1 t → Keeps l1 l2 → IfSome l0 (λ bytes. IsCutShort bytes l2 h0 h1)
 so-far-cut None l1 l2 h0 h1 t between empty s kept = tt

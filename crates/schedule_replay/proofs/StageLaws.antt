@@ -1,45 +1,50 @@
 -- What a line, and the end of a schedule, do at each stage.
 use Rattle.std.proofs.Common.{◌≡◌, ℕ, ◌+◌, ◌≤◌, Bool, true, List, [], ◌∷◌, length, Option, Some, None, Result, Ok, Err, refl, sym, ap, subst, ◌∙◌}
 use Rattle.tree_specs.specs.declared.schedule.Reason.TheVariants.{Limit, Form}
-use Rattle.tree_specs.specs.Machine.View.{View}
 use Rattle.tree_specs.specs.Texts.Grammar.{input_of}
 use Rattle.tree_specs.specs.Texts.Lines.{Line, is_over_limit, line_limit}
-use Rattle.tree_specs.specs.Texts.Schedule.{misfit, pools}
+use Rattle.tree_specs.specs.Texts.Schedule.{misfit}
 use Rattle.tree_specs.specs.Texts.Text.{header}
 use Rattle.line_pieces.specs.Cuts.{ended_line}
 use Rattle.line_pieces.specs.Takings.{TakesLine, last_lines}
-use Rattle.schedule_replay.specs.declared.play.Play.{Play}
 use Rattle.schedule_replay.specs.declared.stage.Stage.{Stage}
-use Rattle.schedule_replay.specs.declared.stage.Stage.TheVariants.{Header, Pool}
+use Rattle.schedule_replay.specs.declared.stage.Stage.TheVariants.{Header, Pool, Service}
 use Rattle.schedule_replay.specs.declared.stop.Stop.{Stop}
 use Rattle.schedule_replay.specs.declared.stop.Stop.TheVariants as errors
 use Rattle.schedule_replay.specs.Hosts.{host_standing}
+use Rattle.schedule_replay.specs.Stations.{station_standing}
 use Rattle.schedule_replay.specs.Replays.{Replayed, with_front, replayed_lines, BeginsText}
 use Rattle.schedule_replay.specs.Stages.{IsAtHeader, replayed_all, comes, text_in, ready, stops, TakesHeader}
 use Rattle.schedule_replay.specs.Standings.{runner_of}
 use Rattle.schedule_replay.proofs.TextLaws.{begins_nil, begins_it}
-use Rattle.schedule_replay.proofs.WholeLaws.{header-taken, header-form, header-over, header-ends}
+use Rattle.schedule_replay.proofs.WholeLaws.{nothing-runs, pool-taken, service-taken, header-form, header-over, header-ends}
 
 -- ---- the first line
 
 pub header_line : (s t : Stage) (n : ℕ) (text : List ℕ) (r : Result (Unit {0}) Stop) → IsAtHeader s → ready s n → length text ≤ line_limit → TakesHeader text s t r → TakesLine comes stops s n text t r
 header_line (Pool play) t n text r h one short e = absurd h
-header_line (Header alloc) t n text (Ok done) h one short e = λ rest.
-    header-taken text rest e.2.0 ∙ e.2.1.goes_on 2 rest ∙ ap (λ (m : ℕ). comes (Pool e.0) (m + 1) rest) (sym one) ∙ ap (λ (u : Stage). comes u (n + 1) rest) (sym e.1)
+header_line (Service play) t n text r h one short e = absurd h
+header_line (Header alloc) (Header other) n text (Ok done) h one short e = absurd e
+header_line (Header alloc) (Pool play) n text (Ok done) h one short e = λ rest.
+    pool-taken text rest e.0 ∙ e.1.goes_on 2 rest ∙ ap (λ (m : ℕ). comes (Pool play) (m + 1) rest) (sym one)
+header_line (Header alloc) (Service play) n text (Ok done) h one short e = λ rest.
+    service-taken text rest e.1.0 e.0 e.1.1 ∙ e.1.2.goes_on 2 rest ∙ ap (λ (m : ℕ). comes (Service play) (m + 1) rest) (sym one)
 header_line (Header alloc) t n text (Err (errors.Refused line reason)) h one short e = λ rest.
-    rw (e.0, e.1.0, e.1.1) (header-form (ended_line text) rest short e.1.2)
+    rw (e.0, e.1.0, e.1.1) (header-form (ended_line text) rest short (nothing-runs text e.1.2))
 header_line (Header alloc) t n text (Err errors.Memory) h one short e = λ rest. rw e.0 (begins_nil (replayed_all (ended_line text ∷ rest)).text)
 header_line (Header alloc) t n text (Err _) h one short e = absurd e.1
 
 -- it is over a limit
 pub header_limit : (s : Stage) (n : ℕ) → IsAtHeader s → ready s n → (line : Line) (rest : List Line) → is_over_limit n line ≡ true → comes s n (line ∷ rest) ≡ record { text = Some []; refused = Some (n, Limit) }
 header_limit (Pool play) n h one = absurd h
+header_limit (Service play) n h one = absurd h
 header_limit (Header alloc) n h one = λ line rest over.
     header-over line rest (subst (λ (m : ℕ). is_over_limit m line ≡ true) one over) ∙ rw one refl
 
 -- the schedule ends before the second line
 pub header_end : (s : Stage) (n : ℕ) (cut : Bool) → IsAtHeader s → ready s n → (text : List ℕ) → length text ≤ line_limit → comes s n (last_lines cut text) ≡ record { text = Some []; refused = Some (n, Form) }
 header_end (Pool play) n cut h one = absurd h
+header_end (Service play) n cut h one = absurd h
 header_end (Header alloc) n cut h one = λ text short. header-ends cut text short ∙ rw one refl
 
 -- ---- at every stage
@@ -47,3 +52,4 @@ header_end (Header alloc) n cut h one = λ text short. header-ends cut text shor
 pub wants_memory : (s : Stage) (n : ℕ) (ls : List Line) → BeginsText (text_in s) (comes s n ls).text
 wants_memory (Header alloc) n ls = begins_nil (replayed_all ls).text
 wants_memory (Pool play) n ls = begins_it play.text.items (replayed_lines (runner_of input_of misfit (host_standing play.machine)) n ls).text
+wants_memory (Service play) n ls = begins_it play.text.items (replayed_lines (runner_of input_of misfit (station_standing play.machine)) n ls).text

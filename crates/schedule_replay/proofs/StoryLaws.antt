@@ -1,38 +1,69 @@
 -- What a replay writes of a schedule whose first line is a header is the text of a story that is orderly and grounded.
 use Rattle.std.proofs.Common.{◌≡◌, ◌≢◌, ℕ, List, [], ◌∷◌, inl, inr, Option, Some, None, refl, sym, ◌∙◌, ap, subst, arith}
 use Rattle.std.specs.Prelude.{IfSome}
+use Rattle.tree_specs.specs.declared.question.Input.{Input}
+use Rattle.tree_specs.specs.declared.schedule.Mode.{Mode}
+use Rattle.tree_specs.specs.declared.schedule.Mode.TheVariants.{Pool, Service}
 use Rattle.tree_specs.specs.declared.schedule.Reason.{Reason}
 use Rattle.tree_specs.specs.declared.schedule.Reason.TheVariants.{Form}
-use Rattle.tree_specs.specs.Rules.Story.{story, items}
+use Rattle.tree_specs.specs.Rules.Story.{story}
 use Rattle.tree_specs.specs.Texts.Lines.{Line, lines}
-use Rattle.tree_specs.specs.Texts.Runners.{header_reason, judged_lines, transcript_lines}
-use Rattle.tree_specs.specs.Texts.Schedule.{pools, judge, inputs_of, transcript_of}
-use Rattle.tree_specs.specs.Texts.Text.{transcript}
+use Rattle.tree_specs.specs.Texts.Runners.{header_reason, judged_lines, transcript_by, transcript_lines}
+use Rattle.tree_specs.specs.Texts.Text.{body_text, transcript}
 use Rattle.tree_specs.proofs.Promises.StoryOrder.{story-orderly, story-grounded}
+use Rattle.machine_driver.specs.Driver.{items_or_none, shown_of}
+use Rattle.service_rules.specs.Knowledge.{nothing_known}
+use Rattle.service_rules.specs.Schedules.{runner_in, judge, inputs_of, transcript_of}
+use Rattle.service_rules.specs.Schedules.{runner_of as runs}
+use Rattle.service_rules.specs.Service.{inputs_behind, machine, service_story, station}
+use Rattle.service_rules.proofs.Orderliness.{service-orderly}
 use Rattle.schedule_replay.specs.declared.ran.Ran.{Ran}
 use Rattle.schedule_replay.specs.declared.ran.Ran.TheVariants as rans
-use Rattle.schedule_replay.specs.Runs.{WritesText, IsDone, IsBad, Replays}
-use Rattle.schedule_replay.specs.Stories.{WritesStory}
+use Rattle.schedule_replay.specs.Runs.{WritesText, IsDone, IsBad, Replays, mode_in}
+use Rattle.schedule_replay.specs.Stories.{WritesStory, WritesStoryIn}
 use Rattle.schedule_replay.proofs.WholeLaws.{runs-or-none}
 
--- where the first line isn't refused hosts run the others
-story-text : (ls : List Line) → ((why : Reason) → (judged_lines pools ls).refused ≢ Some (1, why)) → transcript_lines pools ls ≡ transcript (items (story 1 (judged_lines pools ls).inputs))
+-- where the first line isn't refused a host or a service runs the others
+story-text : (ls : List Line) → ((why : Reason) → (judged_lines runs ls).refused ≢ Some (1, why))
+    → (mode : Mode) × (mode_in ls ≡ Some mode) × (transcript_lines runs ls ≡ transcript_by runs (Some (runner_in mode)) (judged_lines runs ls).inputs)
 unfolding judged_lines transcript_lines
 story-text [] later = absurd (later Form refl)
-story-text (first ∷ rest) later = elim (runs-or-none first) [ inl none ↦ absurd (later (header_reason first) (rw none refl)) | inr some ↦ rw some refl ]
+story-text (first ∷ rest) later = elim (runs-or-none first) [ inl none ↦ absurd (later (header_reason first) (rw none refl)) | inr some ↦ (some.0, some.1, rw some.2 refl) ]
 
 abbrev line_in : Option (ℕ × Reason) → ℕ
 line_in None = 0
 line_in (Some refused) = refused.0
 
-writes-story : (bytes : List ℕ) (held now : Option (List ℕ)) → ((why : Reason) → judge bytes ≢ Some (1, why)) → WritesText (transcript_of bytes) held now → WritesStory bytes held now
-writes-story bytes held now later text = record {
-  scenes = story 1 (inputs_of bytes);
+-- no transcript without an item
+nothing-told : {A : Type 0} (held now : Option (List ℕ)) → WritesText (transcript []) held now → A
+unfolding body_text
+nothing-told held now text = absurd text
+
+-- a service's story that has a text is there
+behind-it : (is : List Input) (held now : Option (List ℕ)) → WritesText (transcript (service_story is)) held now → (behind : List Input) × (inputs_behind is ≡ Some behind)
+behind-it is held now text = each (inputs_behind is) refl text
+  where
+    each : (o : Option (List Input)) → inputs_behind is ≡ o → WritesText (transcript (items_or_none (shown_of station nothing_known machine is o))) held now → (behind : List Input) × (inputs_behind is ≡ Some behind)
+    each None e text = nothing-told held now text
+    each (Some js) e text = (js, e)
+
+story-in : (mode : Mode) (is : List Input) (held now : Option (List ℕ)) → WritesText (transcript_by runs (Some (runner_in mode)) is) held now → WritesStoryIn (Some mode) is held now
+story-in Pool is held now text = record {
+  scenes = story 1 is;
   inputs = refl;
-  text = subst (λ (o : Option (List ℕ)). WritesText o held now) (story-text (lines bytes) later) text;
-  orderly = story-orderly 1 (inputs_of bytes) (omega arith);
-  grounded = story-grounded 1 (inputs_of bytes) (omega arith);
+  text = text;
+  orderly = story-orderly 1 is (omega arith);
+  grounded = story-grounded 1 is (omega arith);
 }
+story-in Service is held now text =
+    let b = behind-it is held now text in
+    record { text = text; orderly = service-orderly is; behind = b.0; filled = b.1; grounded = story-grounded 1 b.0 (omega arith) }
+
+writes-story : (bytes : List ℕ) (held now : Option (List ℕ)) → ((why : Reason) → judge bytes ≢ Some (1, why)) → WritesText (transcript_of bytes) held now → WritesStory bytes held now
+writes-story bytes held now later text =
+    let s = story-text (lines bytes) later in
+    subst (λ (m : Option Mode). WritesStoryIn m (inputs_of bytes) held now) (sym s.1)
+    (story-in s.0 (inputs_of bytes) held now (subst (λ (o : Option (List ℕ)). WritesText o held now) s.2 text))
 
 pub done-story : (left : Option (List ℕ)) (rest held now : Option (List ℕ)) (ran : Ran) → IfSome left (λ bytes. Replays bytes rest held now ran) → ran ≡ rans.Done → IfSome left (λ bytes. WritesStory bytes held now)
 done-story None rest held now ran h e = tt

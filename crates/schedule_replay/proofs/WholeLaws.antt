@@ -1,7 +1,8 @@
 -- A whole replay, in the words of schedules and transcripts: their first line says what runs the others.
-use Rattle.std.proofs.Common.{◌≡◌, ℕ, ◌+◌, ◌<◌, ◌≤◌, Bool, true, false, cond, ltb, ◌||◌, ◌⊎◌, inl, inr, List, [], ◌∷◌, ◌++◌, length, Option, Some, None, Result, Ok, Err, refl, sym, ap, subst, ◌∙◌, arith}
+use Rattle.std.proofs.Common.{◌≡◌, ℕ, suc, ◌+◌, ◌<◌, ◌≤◌, Bool, true, false, cond, ltb, ◌||◌, ◌⊎◌, inl, inr, List, [], ◌∷◌, ◌++◌, length, Option, Some, None, Result, Ok, Err, refl, sym, ap, subst, ◌∙◌, arith}
 use Rattle.std.specs.Io.KnownBytes.{Appends, IsAtEnd}
-use Rattle.std.specs.Prelude.{IfSome, is_some, not}
+use Rattle.std.specs.Option.{option_map}
+use Rattle.std.specs.Prelude.{IfSome}
 use Rattle.std.specs.Str.{bytes_eq}
 use Rattle.std.proofs.KnownBytes.{Appends-nil}
 use Rattle.std.proofs.lemmas.Bool.Decides.{nat_tests}
@@ -19,56 +20,60 @@ use Rattle.tree_specs.specs.Rules.Story.{story, items}
 use Rattle.tree_specs.specs.Texts.Grammar.{input_of}
 use Rattle.tree_specs.specs.Texts.Lines.{Line, lines, is_over_limit, line_limit, lines_limit}
 use Rattle.tree_specs.specs.Texts.Runners.{Runner, header_reason, runner_after, judged_lines, transcript_by, transcript_lines}
-use Rattle.tree_specs.specs.Texts.Schedule.{pool_header, service_header, mode_of, misfit, runner_by, pool_runner, hosts_alone, pools, judge, transcript_of}
+use Rattle.tree_specs.specs.Texts.Schedule.{pool_header, service_header, mode_of, misfit, runner_by, pool_runner}
 use Rattle.tree_specs.specs.Texts.Text.{header, item_text, body_text, end_text}
 use Rattle.tree_specs.proofs.Rules.StoryLaws.{story-items, story-strays, story-asks}
+use Rattle.machine_driver.specs.Driver.{driven, items_or_none}
+use Rattle.service_rules.specs.Knowledge.{nothing_known}
+use Rattle.service_rules.specs.Schedules.{runner_in, service_runner, judge, transcript_of}
+use Rattle.service_rules.specs.Schedules.{runner_of as runs}
+use Rattle.service_rules.specs.Service.{answers, machine, service_story, station}
+use Rattle.service_rules.specs.Stations.{Shows, StationView, unborn}
+use Rattle.service_rules.proofs.Ending.{driven-ends}
+use Rattle.service_rules.proofs.Steps.{first-strays, first-to-come}
 use Rattle.line_pieces.specs.Cuts.{ended_line}
 use Rattle.line_pieces.specs.Takings.{last_lines}
 use Rattle.schedule_replay.specs.Hosts.{host_standing}
+use Rattle.schedule_replay.specs.Stations.{station_standing}
 use Rattle.schedule_replay.specs.Replays.{Replayed, with_front, replayed_lines, BeginsText}
-use Rattle.schedule_replay.specs.Runs.{WritesText, IsDone, IsBad, IsFrontOf}
+use Rattle.schedule_replay.specs.Runs.{WritesText, IsDone, IsBad, IsFrontOf, mode_in}
 use Rattle.schedule_replay.specs.Stages.{replayed_all}
 use Rattle.schedule_replay.specs.Standings.{runner_of}
-use Rattle.schedule_replay.proofs.RunLaws.{not-over}
-use Rattle.schedule_replay.proofs.TextLaws.{begins_nil}
+use Rattle.schedule_replay.proofs.RunLaws.{follows-lines, not-over}
+use Rattle.schedule_replay.proofs.StationLaws.{shows-nothing}
+use Rattle.schedule_replay.proofs.TextLaws.{begins_nil, front-nil}
 
 -- ---- what the first line says
 
--- hosts run the others, or nothing does
-hosts-or-none : (m : Option Mode) → (hosts_alone m ≡ None) ⊎ (hosts_alone m ≡ Some pool_runner)
-hosts-or-none (Some Pool) = inr refl
-hosts-or-none (Some Service) = inl refl
-hosts-or-none None = inl refl
-
-pub runs-or-none : (line : Line) → (runner_after pools line ≡ None) ⊎ (runner_after pools line ≡ Some pool_runner)
+pub runs-or-none : (line : Line) → (runner_after runs line ≡ None) ⊎ ((mode : Mode) × (mode_in (line ∷ []) ≡ Some mode) × (runner_after runs line ≡ Some (runner_in mode)))
 runs-or-none line = by_ended line.ended
   where
-    by_ended : (b : Bool) → (cond b (pools line.text) None ≡ None) ⊎ (cond b (pools line.text) None ≡ Some pool_runner)
-    by_ended true = hosts-or-none (mode_of line.text)
+    by_mode : (m : Option Mode) → (option_map runner_in m ≡ None) ⊎ ((mode : Mode) × (m ≡ Some mode) × (option_map runner_in m ≡ Some (runner_in mode)))
+    by_mode None = inl refl
+    by_mode (Some mode) = inr (mode, refl, refl)
+
+    by_ended : (b : Bool) → (cond b (runs line.text) None ≡ None) ⊎ ((mode : Mode) × (cond b (mode_of line.text) None ≡ Some mode) × (cond b (runs line.text) None ≡ Some (runner_in mode)))
+    by_ended true = by_mode (mode_of line.text)
     by_ended false = inl refl
 
-pub not_false : (b : Bool) → not b ≡ false → b ≡ true
-not_false true h = refl
-not_false false h = absurd cc
+pub runs-so : (text : List ℕ) (mode : Mode) → mode_of text ≡ Some mode → runs text ≡ Some (runner_in mode)
+runs-so text mode e = ap (option_map runner_in) e
 
-pub pools-run : (text : List ℕ) → is_some (pools text) ≡ true → pools text ≡ Some pool_runner
-pools-run text e = elim (hosts-or-none (mode_of text)) [ inl none ↦ (let f : false ≡ true = sym (ap is_some none) ∙ e in absurd cc) | inr some ↦ some ]
-
-pub nothing-runs : (text : List ℕ) → is_some (pools text) ≡ false → pools text ≡ None
-nothing-runs text e = elim (hosts-or-none (mode_of text)) [ inl none ↦ none | inr some ↦ (let f : true ≡ false = sym (ap is_some some) ∙ e in absurd cc) ]
+pub nothing-runs : (text : List ℕ) → mode_of text ≡ None → runs text ≡ None
+nothing-runs text e = ap (option_map runner_in) e
 
 -- a line past a limit is no header
-long-text : (text : List ℕ) → 18 < length text → pools text ≡ None
+long-text : (text : List ℕ) → 21 < length text → runs text ≡ None
 unfolding mode_of
 long-text text lt = by_test (bytes_eq text pool_header) refl
   where
-    other : (c : Bool) → hosts_alone (cond c (Some Service) None) ≡ None
-    other true = refl
-    other false = refl
+    other : (b : Bool) → bytes_eq text service_header ≡ b → option_map runner_in (cond b (Some Service) None) ≡ None
+    other true e = let n = ap length ((bytes_eq-Decides text service_header).0 e) in absurd (omega (arith, n))
+    other false e = refl
 
-    by_test : (b : Bool) → bytes_eq text pool_header ≡ b → pools text ≡ None
+    by_test : (b : Bool) → bytes_eq text pool_header ≡ b → runs text ≡ None
     by_test true e = let n = ap length ((bytes_eq-Decides text pool_header).0 e) in absurd (omega (arith, n))
-    by_test false e = rw e (other (bytes_eq text service_header))
+    by_test false e = rw e (other (bytes_eq text service_header) refl)
 
 over-long : (line : Line) → is_over_limit 1 line ≡ true → line_limit < length line.text
 over-long line over = by_test (ltb line_limit (length line.text)) refl over
@@ -77,36 +82,47 @@ over-long line over = by_test (ltb line_limit (length line.text)) refl over
     by_test true e over = grind (arith, nat_tests)
     by_test false e over = absurd cc
 
-no-header : (line : Line) → is_over_limit 1 line ≡ true → runner_after pools line ≡ None
+no-header : (line : Line) → is_over_limit 1 line ≡ true → runner_after runs line ≡ None
 no-header line over = by_ended line.ended
   where
-    by_ended : (b : Bool) → cond b (pools line.text) None ≡ None
+    by_ended : (b : Bool) → cond b (runs line.text) None ≡ None
     by_ended true = long-text line.text (let n = over-long line over in omega arith)
     by_ended false = refl
 
 -- ---- the first line is taken
 
 -- a host that begins runs lines as the rules tell its story
-pub host-begins : pool_runner ≡ runner_of input_of misfit (host_standing (begin 1))
+host-begins : pool_runner ≡ runner_of input_of misfit (host_standing (begin 1))
 host-begins = λ i. runner_by (λ is. story-items 1 is (omega arith) i) (λ is. sym (story-strays 1 is (omega arith)) i)
 
-taken-so : (text : List ℕ) (rest : List Line) → pools text ≡ Some pool_runner → replayed_all (ended_line text ∷ rest) ≡ with_front header (replayed_lines pool_runner 2 rest)
-unfolding judged_lines transcript_lines replayed_lines
-taken-so text rest e = rw e refl
+-- and so does a service
+service-begins : service_runner ≡ runner_of input_of misfit (station_standing unborn)
+service-begins = λ i. runner_by (λ is. ap (λ (o : Option (List Item)). items_or_none o) (sym (first-to-come is)) i) (λ is. sym (first-strays is) i)
 
-pub header-taken : (text : List ℕ) (rest : List Line) → pools text ≡ Some pool_runner → replayed_all (ended_line text ∷ rest) ≡ with_front header (replayed_lines (runner_of input_of misfit (host_standing (begin 1))) 2 rest)
-header-taken text rest e = taken-so text rest e ∙ ap (λ (r : Runner Input). with_front header (replayed_lines r 2 rest)) host-begins
+taken-so : (text : List ℕ) (rest : List Line) (r : Runner Input) → runs text ≡ Some r → replayed_all (ended_line text ∷ rest) ≡ with_front header (replayed_lines r 2 rest)
+unfolding judged_lines transcript_lines replayed_lines
+taken-so text rest r e = rw e refl
+
+pub pool-taken : (text : List ℕ) (rest : List Line) → mode_of text ≡ Some Pool → replayed_all (ended_line text ∷ rest) ≡ with_front header (replayed_lines (runner_of input_of misfit (host_standing (begin 1))) 2 rest)
+pool-taken text rest e = taken-so text rest pool_runner (runs-so text Pool e) ∙ ap (λ (r : Runner Input). with_front header (replayed_lines r 2 rest)) host-begins
+
+-- by a service of which nothing was seen yet
+pub service-taken : (text : List ℕ) (rest : List Line) (first : StationView) → mode_of text ≡ Some Service → Shows [] unborn first → replayed_all (ended_line text ∷ rest) ≡ with_front header (replayed_lines (runner_of input_of misfit (station_standing first)) 2 rest)
+service-taken text rest first e unseen =
+    let r : Replayed = replayed_lines (runner_of input_of misfit (station_standing first)) 2 rest in
+    taken-so text rest service_runner (runs-so text Service e) ∙ ap (λ (r : Runner Input). with_front header (replayed_lines r 2 rest)) service-begins
+    ∙ ap (with_front header) (follows-lines input_of misfit [] (station_standing unborn) (station_standing first) 2 rest (shows-nothing unborn first unseen) ∙ sym (front-nil r))
 
 -- ---- it is refused
 
-refused-at-once : (line : Line) (rest : List Line) → runner_after pools line ≡ None → replayed_all (line ∷ rest) ≡ record { text = Some []; refused = Some (1, header_reason line) }
+refused-at-once : (line : Line) (rest : List Line) → runner_after runs line ≡ None → replayed_all (line ∷ rest) ≡ record { text = Some []; refused = Some (1, header_reason line) }
 unfolding judged_lines transcript_lines
 refused-at-once line rest e = rw e refl
 
 pub header-over : (line : Line) (rest : List Line) → is_over_limit 1 line ≡ true → replayed_all (line ∷ rest) ≡ record { text = Some []; refused = Some (1, Limit) }
 header-over line rest over = refused-at-once line rest (no-header line over) ∙ rw over refl
 
-pub header-form : (line : Line) (rest : List Line) → length line.text ≤ line_limit → runner_after pools line ≡ None → replayed_all (line ∷ rest) ≡ record { text = Some []; refused = Some (1, Form) }
+pub header-form : (line : Line) (rest : List Line) → length line.text ≤ line_limit → runner_after runs line ≡ None → replayed_all (line ∷ rest) ≡ record { text = Some []; refused = Some (1, Form) }
 header-form line rest short e = refused-at-once line rest e ∙ rw (not-over 1 line (omega arith) short) refl
 
 -- the schedule ends before its second line
@@ -132,25 +148,33 @@ text_some (Told e ∷ []) h = absurd h
 text_some (Asked q ∷ []) h = (end_text q, refl)
 text_some (i ∷ j ∷ rest) h = let t = text_some (j ∷ rest) h in (item_text i ++ t.0, rw t.1 refl)
 
-host-text : (m : Option Mode) (is : List Input) → (text : List ℕ) × (transcript_by pools (hosts_alone m) is ≡ Some text)
-host-text (Some Pool) is = let t = text_some (items (story 1 is)) (story-asks 1 is (omega arith)) in (header ++ t.0, rw t.1 refl)
-host-text (Some Service) is = ([], refl)
-host-text None is = ([], refl)
+-- a service's story ends with its question, unless it has given all the answers that it may
+service-text : (is : List Input) → ((text : List ℕ) × (service_runner.told is ≡ Some text)) ⊎ (service_story is ≡ [])
+service-text is = each (driven station (suc (answers (length is))) nothing_known machine is) refl
+  where
+    each : (o : Option (List Item)) → driven station (suc (answers (length is))) nothing_known machine is ≡ o → ((text : List ℕ) × (body_text (items_or_none o) ≡ Some text)) ⊎ (items_or_none o ≡ [])
+    each None e = inr refl
+    each (Some l) e = inl (text_some l (driven-ends (suc (answers (length is))) is l e))
 
-first-text : (line : Line) (is : List Input) → (text : List ℕ) × (transcript_by pools (runner_after pools line) is ≡ Some text)
+Has : Option (List ℕ) → Option Mode → List Input → Type 0
+Has o mode is = ((text : List ℕ) × (o ≡ Some text)) ⊎ ((mode ≡ Some Service) × (service_story is ≡ []))
+
+runner-text : (m : Option Mode) (is : List Input) → Has (transcript_by runs (option_map runner_in m) is) m is
+runner-text (Some Pool) is = let t = text_some (items (story 1 is)) (story-asks 1 is (omega arith)) in inl (header ++ t.0, rw t.1 refl)
+runner-text (Some Service) is = elim (service-text is) [ inl t ↦ inl (header ++ t.0, ap (option_map (λ (text : List ℕ). header ++ text)) t.1) | inr out ↦ inr (refl, out) ]
+runner-text None is = inl ([], refl)
+
+first-text : (line : Line) (is : List Input) → Has (transcript_by runs (runner_after runs line) is) (mode_in (line ∷ [])) is
 first-text line is = by_ended line.ended
   where
-    by_ended : (b : Bool) → (text : List ℕ) × (transcript_by pools (cond b (pools line.text) None) is ≡ Some text)
-    by_ended true = host-text (mode_of line.text) is
-    by_ended false = ([], refl)
+    by_ended : (b : Bool) → Has (transcript_by runs (cond b (runs line.text) None) is) (cond b (mode_of line.text) None) is
+    by_ended true = runner-text (mode_of line.text) is
+    by_ended false = inl ([], refl)
 
-lines-text : (ls : List Line) → (text : List ℕ) × (transcript_lines pools ls ≡ Some text)
+lines-text : (ls : List Line) → Has (transcript_lines runs ls) (mode_in ls) (judged_lines runs ls).inputs
 unfolding transcript_lines
-lines-text [] = ([], refl)
-lines-text (first ∷ rest) = first-text first (judged_lines pools (first ∷ rest)).inputs
-
-transcript_some : (bytes : List ℕ) → (text : List ℕ) × (transcript_of bytes ≡ Some text)
-transcript_some bytes = lines-text (lines bytes)
+lines-text [] = inl ([], refl)
+lines-text (first ∷ rest) = first-text first (judged_lines runs (first ∷ rest)).inputs
 
 -- ---- what is written
 
@@ -167,10 +191,12 @@ is_bad bytes held now text line reason e put =
     record { refused = judge_is bytes (Some text) (Some (line, reason)) e; text = writes _ text held now (text_is bytes (Some text) (Some (line, reason)) e) put }
 
 pub is_front : (bytes : List ℕ) (held now : Option (List ℕ)) (front : List ℕ) → BeginsText front (replayed_all (lines bytes)).text → Appends held now front → IsFrontOf bytes held now
-is_front bytes held now front begins put =
-    let t = transcript_some bytes in
-    let b : BeginsText front (Some t.0) = subst (λ (o : Option (List ℕ)). BeginsText front o) t.1 begins in
-    record { front = front; rest = b.0; text = t.1 ∙ ap (λ (l : List ℕ). Some l) b.1; put = put }
+is_front bytes held now front begins put = record { front = front; put = put; text = elim (lines-text (lines bytes)) [ inl t ↦ inl (of t.0 t.1) | inr out ↦ inr out ] }
+  where
+    of : (text : List ℕ) → transcript_of bytes ≡ Some text → (rest : List ℕ) × (transcript_of bytes ≡ Some (front ++ rest))
+    of text e =
+        let b : BeginsText front (Some text) = subst (λ (o : Option (List ℕ)). BeginsText front o) e begins in
+        (b.0, e ∙ ap (λ (l : List ℕ). Some l) b.1)
 
 -- where there was no memory to begin with
 pub not-begun : (left held : Option (List ℕ)) → IfSome left (λ bytes. IsFrontOf bytes held held)

@@ -1,5 +1,5 @@
 -- What a host is to whoever runs the lines of a schedule by it.
-use Rattle.std.specs.Prelude.{List, ℕ, [], length}
+use Rattle.std.specs.Prelude.{List, ℕ}
 use Rattle.tree_specs.specs.declared.call.Call.{Call}
 use Rattle.tree_specs.specs.declared.question.Input.{Input}
 use Rattle.tree_specs.specs.declared.question.Input.TheVariants as input
@@ -13,7 +13,6 @@ host_standing v = record {
   asked = question_of v;
   course = course_by (rest_of v) (strays_of v);
   tells = λ is. body_text (rest_of v is);
-  left = length (rest_of v []);
 }
 
 -- a call was done, and what came of it at once was appended

@@ -2,6 +2,7 @@ pub mod Replays
 pub mod Questions
 pub mod Standings
 pub mod Hosts
+pub mod Stations
 pub mod Plays
 pub mod Starts
 pub mod Stages

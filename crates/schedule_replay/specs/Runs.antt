@@ -1,10 +1,15 @@
 -- What a replay of a whole schedule writes and answers.
-use Rattle.std.specs.Prelude.{◌≡◌, ℕ, true, List, [], ◌∷◌, ◌++◌, Option, Some, None, Result, Ok, Err}
+use Rattle.std.specs.Prelude.{◌≡◌, ◌⊎◌, if◌then◌else◌, ℕ, true, List, [], ◌∷◌, ◌++◌, Option, Some, None, Result, Ok, Err}
 use Rattle.std.specs.Io.KnownBytes.{Appends, Consumes, IsAtEnd}
 use Rattle.tree_specs.specs.declared.question.Ask.{Ask}
 use Rattle.tree_specs.specs.declared.schedule.Reason.{Reason}
 use Rattle.tree_specs.specs.Texts.Text.{end_text}
-use Rattle.tree_specs.specs.Texts.Schedule.{judge, transcript_of}
+use Rattle.tree_specs.specs.declared.schedule.Mode.{Mode}
+use Rattle.tree_specs.specs.declared.schedule.Mode.TheVariants.{Service}
+use Rattle.tree_specs.specs.Texts.Lines.{Line, lines}
+use Rattle.tree_specs.specs.Texts.Schedule.{mode_of}
+use Rattle.service_rules.specs.Schedules.{judge, inputs_of, transcript_of}
+use Rattle.service_rules.specs.Service.{service_story}
 use Rattle.line_pieces.specs.Cuts.{has_no_lf}
 use Rattle.schedule_replay.specs.declared.ran.Ran.{Ran}
 use Rattle.schedule_replay.specs.declared.ran.Ran.TheVariants as rans
@@ -35,12 +40,20 @@ pub record IsBad (bytes : List ℕ) (line : ℕ) (reason : Reason) (held now : O
   pub refused : judge bytes ≡ Some (line, reason)
   pub text : WritesText (transcript_of bytes) held now
 
--- A prefix of the transcript is written.
+-- what the first line says, where it is a whole one
+abbrev pub mode_in : List Line → Option Mode
+mode_in [] = None
+mode_in (first ∷ rest) = if first.ended then mode_of first.text else None
+
+-- The service would give more answers than it may, so there is no transcript.
+abbrev pub RunsOut : List ℕ → Type 0
+RunsOut bytes = (mode_in (lines bytes) ≡ Some Service) × (service_story (inputs_of bytes) ≡ [])
+
+-- A prefix of the transcript is written, if there is one.
 pub record IsFrontOf (bytes : List ℕ) (held now : Option (List ℕ)) : Type 0 where
   pub front : List ℕ
-  pub rest : List ℕ
-  pub text : transcript_of bytes ≡ Some (front ++ rest)
   pub put : Appends held now front
+  pub text : ((rest : List ℕ) × (transcript_of bytes ≡ Some (front ++ rest))) ⊎ RunsOut bytes
 
 -- this text is the transcript of whole lines without its last line; of no lines it is no text
 abbrev pub IsCutTranscript : List ℕ → List ℕ → Type 0

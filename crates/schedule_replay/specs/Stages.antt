@@ -1,40 +1,44 @@
 -- A schedule that is read: its first line is still to come, or what that line says runs the others.
 use Rattle.std.specs.Prelude.{◌≡◌, ℕ, List, [], Result, Ok, Err}
-use Rattle.tree_specs.specs.Machine.View.{View}
 use Rattle.tree_specs.specs.Texts.Grammar.{input_of}
 use Rattle.tree_specs.specs.Texts.Lines.{Line}
 use Rattle.tree_specs.specs.Texts.Runners.{judged_lines, transcript_lines}
-use Rattle.tree_specs.specs.Texts.Schedule.{misfit, pools}
-use Rattle.schedule_replay.specs.declared.play.Play.{Play}
+use Rattle.tree_specs.specs.Texts.Schedule.{misfit}
+use Rattle.service_rules.specs.Schedules.{runner_of as runner_after}
 use Rattle.schedule_replay.specs.declared.stage.Stage.{Stage}
-use Rattle.schedule_replay.specs.declared.stage.Stage.TheVariants.{Header, Pool}
+use Rattle.schedule_replay.specs.declared.stage.Stage.TheVariants.{Header, Pool, Service}
 use Rattle.schedule_replay.specs.declared.stop.Stop.{Stop}
 use Rattle.schedule_replay.specs.Hosts.{host_standing}
+use Rattle.schedule_replay.specs.Stations.{station_standing}
 use Rattle.schedule_replay.specs.Plays.{comes as play_comes}
 use Rattle.schedule_replay.specs.Replays.{Replayed, with_front, StopsWith, EndsWith}
 use Rattle.schedule_replay.specs.Standings.{Waits}
-use Rattle.schedule_replay.specs.Starts.{PlaysAfter}
+use Rattle.schedule_replay.specs.Starts.{StartsAfter}
 
 -- all lines, the first one too
 abbrev pub replayed_all : List Line → Replayed
-replayed_all ls = record { text = transcript_lines pools ls; refused = (judged_lines pools ls).refused }
+replayed_all ls = record { text = transcript_lines runner_after ls; refused = (judged_lines runner_after ls).refused }
 
 abbrev pub IsAtHeader : Stage → Type 0
 IsAtHeader (Header alloc) = Unit {0}
 IsAtHeader (Pool play) = ⊥
+IsAtHeader (Service play) = ⊥
 
 abbrev pub comes : Stage → ℕ → List Line → Replayed
 comes (Header alloc) n ls = replayed_all ls
 comes (Pool play) n ls = play_comes input_of misfit host_standing play n ls
+comes (Service play) n ls = play_comes input_of misfit station_standing play n ls
 
 -- what is to be written next
 abbrev pub text_in : Stage → List ℕ
 text_in (Header alloc) = []
 text_in (Pool play) = play.text.items
+text_in (Service play) = play.text.items
 
 abbrev pub ready : Stage → ℕ → Type 0
 ready (Header alloc) n = n ≡ 1
 ready (Pool play) n = Waits (host_standing play.machine)
+ready (Service play) n = Waits (station_standing play.machine)
 
 abbrev pub stops : Stop → Stage → Replayed → Type 0
 stops e s found = StopsWith e (text_in s) found
@@ -50,5 +54,5 @@ pub record IsEmptied (s t : Stage) : Type 0 where
 
 -- The first line was taken, or is refused, or there was no memory.
 abbrev pub TakesHeader : List ℕ → Stage → Stage → Result (Unit {0}) Stop → Type 0
-TakesHeader line s t (Ok done) = (play : Play View) × (t ≡ Pool play) × PlaysAfter line (Ok play)
-TakesHeader line s t (Err e) = (t ≡ s) × PlaysAfter line (Err e)
+TakesHeader line s t (Ok done) = StartsAfter line (Ok t)
+TakesHeader line s t (Err e) = (t ≡ s) × StartsAfter line (Err e)

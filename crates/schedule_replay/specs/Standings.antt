@@ -1,5 +1,5 @@
 -- What a machine is to whoever runs the lines of a schedule by it. J is what lines spell.
-use Rattle.std.specs.Prelude.{◌≡◌, ℕ, ◌<◌, Bool, List, [], ◌∷◌, ◌++◌, Option, Some, None, Result, Ok, Err}
+use Rattle.std.specs.Prelude.{◌≡◌, ℕ, Bool, List, [], ◌∷◌, ◌++◌, Option, Some, None, Result, Ok, Err}
 use Rattle.tree_specs.specs.declared.memory.Memory.{Memory}
 use Rattle.tree_specs.specs.declared.question.Ask.{Ask}
 use Rattle.tree_specs.specs.declared.schedule.Reason.{Reason}
@@ -15,8 +15,6 @@ pub record Standing (J : Type 0) : Type 0 where
   pub course : Course J
   -- the text of what is told over these inputs, up to the question that is open then; none where no question is
   pub tells : List J → Option (List ℕ)
-  -- at most so many things are told before the next question
-  pub left : ℕ
 
 module _ {J : Type 0} where
   abbrev pub runner_of : (List ℕ → Option J) → (Option Ask → J → Option Reason) → Standing J → Runner J
@@ -37,7 +35,7 @@ module _ {J : Type 0} where
 
   -- where this input comes first
   abbrev pub once : J → Standing J → Standing J
-  once j s = record { asked = s.asked; course = once_given j s.course; tells = λ js. s.tells (j ∷ js); left = s.left }
+  once j s = record { asked = s.asked; course = once_given j s.course; tells = λ js. s.tells (j ∷ js) }
 
   -- why an input isn't taken
   abbrev pub unfit : (Option Ask → J → Option Reason) → Standing J → J → Option Reason
@@ -62,7 +60,7 @@ module _ {J : Type 0} where
 
   -- Something was told, or a question is open, or what comes is the same.
   abbrev pub Nexts : {T : Type 0} → (T → List ℕ) → Result (Option T) Memory → Standing J → Standing J → Type 0
-  Nexts text_of (Ok (Some told)) s t = Follows (text_of told) s t × (t.left < s.left)
+  Nexts text_of (Ok (Some told)) s t = Follows (text_of told) s t
   Nexts text_of (Ok None) s t = Follows [] s t × Waits t
   Nexts text_of (Err e) s t = Follows [] s t
 

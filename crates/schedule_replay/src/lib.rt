@@ -3,6 +3,7 @@
 
 mod machine;
 mod over_host;
+mod over_station;
 mod play;
 mod ran;
 mod session;

@@ -1,6 +1,6 @@
 //! Replaying what a source gives into what a sink takes.
 ghost use Rattle.std.specs.Prelude.{◌≡◌, ◌≢◌, ℕ, ◌≤◌, ◌+◌, ◌⊎◌, [], None, Err, IfSome, OnOk, length};
-ghost use Rattle.tree_specs.specs.Texts.Schedule.{judge};
+ghost use Rattle.service_rules.specs.Schedules.{judge};
 ghost use Rattle.outside.specs.Causes.{Rose, Counts};
 ghost use Rattle.outside.specs.Outputs.{PutsAll};
 ghost use Rattle.line_pieces.specs.Readings.{IsBetweenBytes, room_left};
@@ -104,9 +104,9 @@ pub fn replay<S: Source, K: Sink>(alloc: Global, input: &mut S, out: &mut K) -> 
     // fault, and when memory runs out, a prefix of the transcript is written.
     ensures replays { IfSome (S.left input.old) (λ bytes. Replays bytes (S.left input.new) (K.held out.old) (K.held out.new) result) }
 
-    // What is written of a schedule whose first line is the header is the text of one story, the one over its inputs:
-    // in this story a destructor accepts at most once, what is freed had its destructor accept, nothing starts for
-    // what is freed, and to free a live object is refused only while it is held, running or refused.
+    // What is written of a schedule whose first line is a header is the text of one story, that of a host or of a line
+    // service over its inputs: in this story a destructor accepts at most once, what is freed had its destructor accept,
+    // nothing starts for what is freed, and to free a live object is refused only while it is held, running or refused.
     ensures story { result ≡ Ran.Done → IfSome (S.left input.old) (λ bytes. WritesStory bytes (K.held out.old) (K.held out.new)) }
     ensures story_before { (line : ℕ) (reason : Reason) → result ≡ Ran.BadSchedule line reason → line ≢ 1 → IfSome (S.left input.old) (λ bytes. WritesStory bytes (K.held out.old) (K.held out.new)) }
     ensures read { Counts (S.faults input.old) (S.faults input.new) (result ≡ Ran.ReadFault) }

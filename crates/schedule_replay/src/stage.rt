@@ -1,40 +1,43 @@
 //! How far a schedule is read: its first line is still to come, or what that line says runs the others.
-ghost use Rattle.std.specs.Prelude.{◌≡◌, is_some};
-ghost use Rattle.tree_specs.specs.Texts.Schedule.{pools};
+ghost use Rattle.std.specs.Prelude.{◌≡◌, IfOk};
+ghost use Rattle.tree_specs.specs.Machine.View.{begin};
+ghost use Rattle.tree_specs.specs.Texts.Grammar.{input_of};
+ghost use Rattle.tree_specs.specs.Texts.Schedule.{misfit, mode_of};
+ghost use Rattle.schedule_replay.specs.Hosts.{host_standing};
+ghost use Rattle.schedule_replay.specs.Plays.{Begins};
 ghost use Rattle.schedule_replay.specs.Replays.{Replayed};
-ghost use Rattle.schedule_replay.specs.Starts.{PlaysAfter};
+ghost use Rattle.schedule_replay.specs.Starts.{BeginsService, StartsAfter};
 
 use crate::play::Play;
 use crate::stop::Stop;
 use host_core::Host;
 use line_pieces::TakesLines;
+use line_service::Station;
 use schedule_text::read_header;
 use std::alloc::Global;
 use std::mem;
 use tree_specs::{Mode, Reason};
 
-/// Whether hosts run the lines after this first one.
-fn is_pool(header: &[u8]) -> bool
-    ensures { result ≡ is_some (pools header.now) }
+/// What the first line says of those after it. None where it is no header.
+fn mode(header: &[u8]) -> Option<Mode>
+    ensures { result ≡ mode_of header.now }
 {
-    match read_header(header) {
-        Ok(Mode::Pool) => true,
-        Ok(Mode::Service) => false,
-        Err(_fault) => false,
-    }
+    read_header(header).ok()
 }
 
-/// The host that runs the lines after this first one.
-fn play_after(alloc: Global, header: &[u8]) -> Result<Play<Host>, Stop>
-    ensures { PlaysAfter header.now result }
+/// A host that runs the lines of a schedule.
+fn begin_pool(alloc: Global) -> Result<Play<Host>, Stop>
+    ensures { IfOk result (λ play. Begins input_of misfit host_standing (begin 1) play) }
 {
-    if !is_pool(header) {
-        return Err(Stop::Refused {
-            line: 1,
-            reason: Reason::Form,
-        });
-    }
     let play = Play::begin(alloc, Host::new(alloc, 1)?)?;
+    Ok(play)
+}
+
+/// A line service that runs them.
+fn begin_service(alloc: Global) -> Result<Play<Station>, Stop>
+    ensures { IfOk result BeginsService }
+{
+    let play = Play::begin(alloc, Station::new(alloc)?)?;
     Ok(play)
 }
 
@@ -45,6 +48,22 @@ pub enum Stage {
     Header(Global),
     /// A host runs the lines after it.
     Pool(Play<Host>),
+    /// A line service runs them.
+    Service(Play<Station>),
+}
+
+/// What runs the lines after this first one.
+fn stage_after(alloc: Global, header: &[u8]) -> Result<Stage, Stop>
+    ensures { StartsAfter header.now result }
+{
+    match mode(header) {
+        Some(Mode::Pool) => Ok(Stage::Pool(begin_pool(alloc)?)),
+        Some(Mode::Service) => Ok(Stage::Service(begin_service(alloc)?)),
+        None => Err(Stop::Refused {
+            line: 1,
+            reason: Reason::Form,
+        }),
+    }
 }
 
 impl Stage {
@@ -57,6 +76,7 @@ impl Stage {
         match self {
             Stage::Header(_alloc) => &[],
             Stage::Pool(play) => &play.text,
+            Stage::Service(play) => &play.text,
         }
     }
 
@@ -64,16 +84,18 @@ impl Stage {
     pub fn clear_text(&mut self)
         ensures { IsEmptied self.old self.new }
     {
-        if let Stage::Pool(play) = self {
-            play.text.clear();
+        match self {
+            Stage::Header(_alloc) => {}
+            Stage::Pool(play) => play.text.clear(),
+            Stage::Service(play) => play.text.clear(),
         }
     }
 
-    /// A host runs the next lines. What stood here was the first line still to come, which owns nothing.
-    fn start(&mut self, play: Play<Host>)
-        ensures { self.new ≡ Stage.Pool play }
+    /// The next lines come. What stood here was the first line still to come, which owns nothing.
+    fn start(&mut self, next: Stage)
+        ensures { self.new ≡ next }
     {
-        mem::forget(mem::replace(self, Stage::Pool(play)));
+        mem::forget(mem::replace(self, next));
     }
 
     /// Takes the first line.
@@ -81,8 +103,8 @@ impl Stage {
     fn take_header(&mut self, alloc: Global, line: &[u8]) -> Result<(), Stop>
         ensures { TakesHeader line.now self.old self.new result }
     {
-        let play = play_after(alloc, line)?;
-        self.start(play);
+        let next = stage_after(alloc, line)?;
+        self.start(next);
         Ok(())
     }
 }
@@ -110,6 +132,7 @@ impl TakesLines for Stage {
                 self.take_header(alloc, line)
             }
             Stage::Pool(play) => play.take_line(number, line),
+            Stage::Service(play) => play.take_line(number, line),
         }
     }
 
@@ -120,6 +143,7 @@ impl TakesLines for Stage {
                 reason: Reason::Limit,
             },
             Stage::Pool(play) => play.refuse_limit(number),
+            Stage::Service(play) => play.refuse_limit(number),
         }
     }
 
@@ -134,6 +158,7 @@ impl TakesLines for Stage {
                 reason: Reason::Form,
             }),
             Stage::Pool(play) => play.finish(number, cut),
+            Stage::Service(play) => play.finish(number, cut),
         }
     }
 }

@@ -51,6 +51,7 @@ fn heard_value(alloc: Global, line: &[u8]) -> Result<Input, FormFault>
 
 /// Reads the input that the line spells, as the grammar defines it: its front decides how the rest is read.
 #[tactic(auto, unfolding(tree_specs::specs::Texts::Grammar::input_of))]
+#[inline(always)]
 fn input_value(alloc: Global, line: &[u8]) -> Result<Input, FormFault>
     ensures { Reads result (input_of line.now) }
 {
@@ -74,6 +75,7 @@ fn input_value(alloc: Global, line: &[u8]) -> Result<Input, FormFault>
 /// The input that a line of a schedule spells, the line without its LF. NoForm exactly where it
 /// spells no input, unless memory ran out. The length of the line isn't judged here.
 #[tactic(auto, using(crate::proofs::Inputs::read_is_sound, crate::proofs::Inputs::read_is_spelled, crate::proofs::Inputs::unread_is_none))]
+#[inline(always)]
 pub fn read_line(alloc: Global, line: &[u8]) -> Result<Input, FormFault>
     ensures value { Reads result (input_of line.now) }
     ensures sound { IfOk result (λ i. IsTrue (is_sound i)) }

@@ -1,7 +1,6 @@
 -- What stands in front of a connection, and what is done with it.
 use Rattle.std.proofs.Common.{◌≡◌, ℕ, ◌+◌, ◌<◌, ◌≤◌, Bool, true, false, List, [], length, length-drop, arith, take, drop, Option, Some, None, Result, Err, IfSome, IsSomeAnd, refl, sym, ◌∙◌, ap, subst}
 use Rattle.std.specs.Ordering.{nat_cmp}
-use Rattle.std.specs.FinMap as map
 use Rattle.std.specs.FinMap.{FinMap, entries}
 use Rattle.pool_arena.proofs.NumberMaps.{found_listed}
 use Rattle.tree_specs.specs.declared.object.Obj.{Obj}
@@ -15,7 +14,6 @@ use Rattle.service_rules.specs.declared.order.Order.TheVariants as order
 use Rattle.service_rules.specs.declared.task.Fulfilling.{Fulfilling}
 use Rattle.service_rules.specs.declared.task.Kept.{Kept}
 use Rattle.service_rules.specs.declared.task.Run.{Run}
-use Rattle.service_rules.specs.declared.task.Serving.{Serving}
 use Rattle.service_rules.specs.declared.task.Task.{Task}
 use Rattle.service_rules.specs.declared.task.Task.TheVariants.{Return}
 use Rattle.service_rules.specs.declared.task.Serving.TheVariants as serving

@@ -1,23 +1,17 @@
 //! The bytes of a connection that came and belong to no line that was done.
-ghost use Rattle.service_lines.specs.Cuts.{IsCut, cut_by, resumed, EndsFirst};
+ghost use Rattle.line_pieces.specs.Cuts.{EndsFirst};
+ghost use Rattle.service_lines.specs.Cuts.{IsCut, resumed};
 ghost use Rattle.service_rules.specs.Lines.{long_limit};
 ghost use Rattle.std.specs.Prelude.{◌≡◌, ◌++◌, ◌≤◌, ◌<◌, [], OnOk, OnErr, false, true, take, drop as dropped, length as length_of, ◌+◌};
 
 use bytes::BytesMut;
-use memchr::memchr;
+use line_pieces::line_end;
 use std::alloc::Global;
 use std::marker::Model;
 use tree_specs::Memory;
 
 /// A line of a connection has at most so many bytes, without its LF.
 const LENGTH_LIMIT: usize = 1_024;
-
-/// Where the first line of these bytes ends; None where none does.
-fn line_end(bytes: &[u8]) -> Option<usize>
-    ensures { EndsFirst bytes.now result }
-{
-    memchr(b'\n', bytes)
-}
 
 /// What stands in front of the bytes that came.
 #[derive(Clone, Copy)]
@@ -30,9 +24,11 @@ pub enum Cut {
     Part,
 }
 
-/// What stands in front of so many bytes, by where the first LF among them stands.
-fn cut_by(end: Option<usize>, length: usize) -> Cut
-    ensures { result ≡ cut_by end length }
+/// What stands in front of these bytes, whose first LF stands here.
+#[tactic(auto, using(crate::proofs::Cutting::line_in_front, crate::proofs::Cutting::part_in_front, crate::proofs::Cutting::long_open))]
+fn cut_at(end: Option<usize>, bytes: &[u8]) -> Cut
+    requires { EndsFirst bytes.now end }
+    ensures { IsCut result bytes.now }
 {
     match end {
         Some(end) => {
@@ -43,7 +39,7 @@ fn cut_by(end: Option<usize>, length: usize) -> Cut
             }
         }
         None => {
-            if length <= LENGTH_LIMIT {
+            if bytes.len() <= LENGTH_LIMIT {
                 Cut::Part
             } else {
                 Cut::Long
@@ -113,12 +109,11 @@ impl Incoming {
     }
 
     /// What stands in front.
-    #[tactic(auto, using(crate::proofs::Cutting::front_is))]
     pub fn cut(&self) -> Cut
         ensures { IsCut result self.now.came }
     {
         let bytes = self.bytes.as_slice();
-        cut_by(line_end(bytes), bytes.len())
+        cut_at(line_end(bytes), bytes)
     }
 
     /// The line of so many bytes that stands in front.

@@ -9,4 +9,6 @@ pub mod Examples
 pub mod Leaving
 pub mod Schedules
 pub mod Sent
+pub mod Fair
+pub mod Fitting
 pub mod Stations

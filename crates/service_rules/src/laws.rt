@@ -12,6 +12,8 @@ ghost use Rattle.tree_specs.specs.Texts.Lines.{Line};
 ghost use Rattle.tree_specs.specs.Texts.Runners.{judged_lines, transcript_lines};
 ghost use Rattle.tree_specs.specs.Texts.Schedule.{mode_of, pools};
 ghost use Rattle.service_rules.specs.Knowledge.{nothing_known};
+ghost use Rattle.service_rules.specs.Fair.{FairBytesGoOut};
+ghost use Rattle.service_rules.specs.Fitting.{FittingBytesGoOut};
 ghost use Rattle.service_rules.specs.Schedules.{runner_of};
 ghost use Rattle.service_rules.specs.Service.{inputs_behind, machine, service_story, station};
 
@@ -38,4 +40,16 @@ pub fn the_story_behind_is_grounded()
 pub fn pool_schedules_are_judged_as_before()
     ensures judged { (first : Line) (rest : List Line) → mode_of first.text ≡ Some Pool → judged_lines runner_of (first ∷ rest) ≡ judged_lines pools (first ∷ rest) }
     ensures transcript { (first : Line) (rest : List Line) → mode_of first.text ≡ Some Pool → transcript_lines runner_of (first ∷ rest) ≡ transcript_lines pools (first ∷ rest) }
+{}
+
+/// Where the answers of the outside are fair, bytes go out on each connection as they were said: what its descriptor has
+/// taken, and what is unsent, are the lines that were said to its session.
+pub fn bytes_go_out_where_answers_are_fair()
+    ensures { FairBytesGoOut }
+{}
+
+/// Where the answers of the outside fit and none of them is an act, nor accepts the descriptor of a kept connection, bytes
+/// go out as they were said.
+pub fn bytes_go_out_where_answers_fit()
+    ensures { FittingBytesGoOut }
 {}

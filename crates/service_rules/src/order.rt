@@ -1,3 +1,4 @@
+//! What lines ask for.
 use tree_specs::Call;
 
 /// What a line of a connection asks for, behind its tag.

@@ -1,10 +1,13 @@
+//! The service's own routines, task by task: what each does next, or waits for.
 use crate::answer::Answer;
 use tree_specs::{Obj, Refusal};
 
 /// A sleep or job whose line is answered when its request is over.
 #[derive(Clone, Copy)]
 pub struct Kept {
+    /// The session of the connection that its line came on.
     pub session: Obj,
+    /// The tag of its line.
     pub tag: u32,
 }
 
@@ -83,8 +86,11 @@ pub enum Serving {
 /// A request that is over, and the line that is to be answered.
 #[derive(Clone, Copy)]
 pub struct Notice {
+    /// The request.
     pub request: Obj,
+    /// The session of the connection that its line came on.
     pub session: Obj,
+    /// The tag of its line.
     pub tag: u32,
 }
 

@@ -2,7 +2,8 @@ use Rattle.std.proofs.Common.{Option, subst}
 use Rattle.tree_specs.specs.declared.reply.Reply.{Reply}
 use Rattle.host_core.specs.Promises.{TakesCall}
 use Rattle.host_core.proofs.Straying.{no-some}
-use Rattle.schedule_replay.proofs.HostLaws.{on-ok, calls-on, calls-replied}
+use Rattle.schedule_replay.proofs.HostLaws.{calls-on, calls-replied}
+use Rattle.schedule_replay.proofs.RunLaws.{on-ok}
 use Rattle.schedule_replay.proofs.over_host.do_call.Goals as goal
 
 pub returns-in_default-clause-ok : goal.returns-in_default-clause-ok

@@ -54,7 +54,7 @@ returns-then-is_bytes-clause-ok c =
     (λ r.
     let o = offered c.self.inside.active c.self.inside.parts c.args.input c.self.invariant.0 (fits-there c.args.self.now c.self.inside.active c.self.inside.parts c.args.input c.self.invariant.0 c.self.invariant.1 c.self.view_is c.requires.fits) c.requires.sound (taken-there c.args.self.now c.self.inside.active c.self.inside.parts c.args.input None c.self.view_is (sym c.requires.unopened)) in
     let t = read_taken c.self.inside.active c.self.inside.parts c.args.input c.self.invariant.0 (fits-there c.args.self.now c.self.inside.active c.self.inside.parts c.args.input c.self.invariant.0 c.self.invariant.1 c.self.view_is c.requires.fits) c.requires.sound (taken-there c.args.self.now c.self.inside.active c.self.inside.parts c.args.input None c.self.view_is (sym c.requires.unopened)) (sym c.is_bytes.ensures ∙ c.if-is_bytes.true) c.read_on.new.now c.read_on.new.parts r in
-    takes-answer c.args.self.now c.self.inside.active c.self.inside.parts c.args.input o.0 _ _ c.self.invariant.0 c.self.invariant.1 c.self.view_is o.1 t.along)
+    takes-answer c.args.self.now c.self.inside.active c.self.inside.parts c.args.input o.0 _ c.read_on.new.now c.read_on.new.parts c.self.invariant.0 c.self.invariant.1 c.self.view_is o.1 t.along t.ready)
 
 -- ---- any other answer
 
@@ -67,5 +67,5 @@ pub returns-clause-ok : goal.returns-clause-ok
 returns-clause-ok c =
     let o = offered c.self.inside.active c.self.inside.parts c.args.input c.self.invariant.0 (fits-there c.args.self.now c.self.inside.active c.self.inside.parts c.args.input c.self.invariant.0 c.self.invariant.1 c.self.view_is c.requires.fits) c.requires.sound (taken-there c.args.self.now c.self.inside.active c.self.inside.parts c.args.input None c.self.view_is (sym c.requires.unopened)) in
     let same = given_same c.self.inside.active c.self.inside.parts c.args.input c.self.invariant.0 (fits-there c.args.self.now c.self.inside.active c.self.inside.parts c.args.input c.self.invariant.0 c.self.invariant.1 c.self.view_is c.requires.fits) c.requires.sound (taken-there c.args.self.now c.self.inside.active c.self.inside.parts c.args.input None c.self.view_is (sym c.requires.unopened)) c.make_room.new.parts c.make_room.ensures.waiting c.in_ok-make_room.ensures.ok in
-    takes-answer c.args.self.now c.self.inside.active c.self.inside.parts c.args.input o.0 _ _ c.self.invariant.0 c.self.invariant.1 c.self.view_is o.1
-    (subst (λ (v : View). TellsSameStory v (host_view c.answer_on.new.now c.answer_on.new.parts)) same c.answer_on.ensures.along)
+    takes-answer c.args.self.now c.self.inside.active c.self.inside.parts c.args.input o.0 _ c.answer_on.new.now c.answer_on.new.parts c.self.invariant.0 c.self.invariant.1 c.self.view_is o.1
+    (subst (λ (v : View). TellsSameStory v (host_view c.answer_on.new.now c.answer_on.new.parts)) same c.answer_on.ensures.along) c.answer_on.ensures.ready

@@ -1,4 +1,4 @@
 use Rattle.schedule_replay.proofs.stage.Stage.take_header.Goals as goal
 
 pub returns : goal.returns
-returns c = (c.in_ok-play.play, c.start.ensures, c.in_ok-play.ensures)
+returns c = rw c.start.ensures c.in_ok-next.ensures

@@ -1,10 +1,19 @@
--- Where no input comes there is none that doesn't fit.
-use Rattle.std.proofs.Common.{◌≡◌, ℕ, suc, zero, false, List, [], ◌∷◌, refl, sym, subst}
-use Rattle.step_machine.specs.Machine.{Move, Table, Outcome, tell, tells, followed, after, run, pass, is_stray}
+-- Whether the last input of a host doesn't fit, step by step. Where no input comes there is none that doesn't.
+use Rattle.std.proofs.Common.{◌≡◌, ℕ, suc, zero, false, List, [], ◌∷◌, Option, Some, refl, sym, ◌∙◌, ap, subst}
+use Rattle.step_machine.specs.Machine.{Move, Table, Outcome, State, silent, tell, tells, followed, after, run, pass, is_stray}
+use Rattle.step_machine.specs.Machine.{Move as Do}
 use Rattle.step_machine.specs.Machine.Move.{Done, Go, Emit, Wait, Call}
 use Rattle.step_machine.specs.Machine.Outcome.{Ended, Waits, Stray, Short}
-use Rattle.tree_specs.specs.Machine.Table.{table}
+use Rattle.tree_specs.specs.declared.question.Input.{Input}
+use Rattle.tree_specs.specs.declared.frame.Frame.{Frame}
+use Rattle.tree_specs.specs.Tree.Pool.{Pool}
+use Rattle.tree_specs.specs.Rules.Items.{Item}
+use Rattle.tree_specs.specs.Machine.Table.{table, step, taken}
 use Rattle.tree_specs.specs.Machine.View.{View, strays_of}
+use Rattle.tree_specs.specs.Invariants.Consistent.{IsConsistent}
+use Rattle.tree_specs.proofs.Rules.Rest.{event-law, question-law, silent-law, view_of_state}
+
+-- ---- where no input comes
 
 -- every input that came was taken
 abbrev Taken : {A P I T : Type 0} → Outcome A P I T → Type 0
@@ -51,3 +60,21 @@ fits _ h = refl
 
 pub unanswered : (v : View) → strays_of v [] ≡ false
 unanswered v = fits _ (pass-taken table _ v.below _ (run-taken table _ v.innermost v.pool))
+
+-- ---- step by step
+
+stray-tell : {A P I T : Type 0} (t : T) (o : Outcome A P I T) → is_stray (tell t o) ≡ is_stray o
+stray-tell t (Ended a p ts is) = refl
+stray-tell t (Waits ts) = refl
+stray-tell t (Stray ts) = refl
+stray-tell t Short = refl
+
+pub event-strays : (v : View) (e : Item) (f : Frame) (p : Pool) (is : List Input) → IsConsistent v → step v.innermost v.pool ≡ Do.Emit e f p → strays_of v is ≡ strays_of (record { innermost = f; below = v.below; pool = p }) is
+event-strays v e f p is h is-emit = ap is_stray (event-law v e f p is h is-emit) ∙ stray-tell e _
+
+pub question-strays : (v : View) (q : Item) (f g : Frame) (p : Pool) (i : Input) (is : List Input) → IsConsistent v → step v.innermost v.pool ≡ Do.Wait q f p → taken f p i ≡ Some g
+    → strays_of v (i ∷ is) ≡ strays_of (record { innermost = g; below = v.below; pool = p }) is
+question-strays v q f g p i is h is-wait fits = ap is_stray (question-law v q f g p i is h is-wait fits) ∙ stray-tell q _
+
+pub silent-strays : (v : View) (s : State Frame Pool) (is : List Input) → IsConsistent v → silent table (step v.innermost v.pool) v.below ≡ Some s → strays_of v is ≡ strays_of (view_of_state s) is
+silent-strays v s is h e = ap is_stray (silent-law v s is h e)

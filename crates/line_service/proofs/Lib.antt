@@ -1,0 +1,5 @@
+mod Names
+mod Served
+mod Stepping
+mod Doing
+mod Offering

@@ -1,0 +1,7 @@
+use Rattle.line_service.proofs.Doing.{turn-begun}
+use Rattle.line_service.proofs.station.Station.begin_turn.Goals as goal
+
+pub returns : goal.returns
+returns c =
+    turn-begun c.args.self.now c.self.inside.desk.knowledge c.self.inside.host c.self.inside.desk.due c.self.inside.left c.self.view_is c.give.new.host c.give.new.left c.give.result c.self.invariant c.requires.quiet c.requires.waits c.requires.complete
+    c.give.ensures.ok c.give.ensures.host c.give.ensures.left
