@@ -23,8 +23,7 @@ use Rattle.tree_specs.specs.Texts.Text.{field_text, call_text, input_text, newli
 use Rattle.tree_specs.specs.Texts.Lines.{Line, lines, lines_of_parts, line_limit, lines_limit}
 use Rattle.tree_specs.specs.Texts.Runners.{Course, once_given, line_input, judged_from, judged_lines, unless_stray, why_not}
 use Rattle.tree_specs.specs.Texts.Schedule.{misfit, mode_of, pool_header, pool_runner}
-use Rattle.service_rules.specs.Schedules.{judge}
-use Rattle.service_rules.specs.Schedules.{runner_of as runs}
+use Rattle.service_rules.specs.Schedules.{judge, runner_of}
 use Rattle.tree_specs.specs.Texts.Load.{Place, next_state, drawn, kind, makes_object, second_draw, owner_drawn, object_drawn, call_drawn, after_call, calls_from, calls_text, first_place, load_calls, load_schedule}
 use Rattle.tree_specs.proofs.Tree.Numbered.{by_test}
 use Rattle.text_forms.proofs.Numerals.{decimal_digits}
@@ -261,7 +260,7 @@ unfolding judged_lines mode_of
 load-taken number count few =
     let cs : List Call = load_calls number count in
     let d : AllDrawn cs = calls-drawn count (first_place number) in
-    ap (λ (ls : List Line). (judged_lines runs ls).refused) (schedule-lines cs d)
+    ap (λ (ls : List Line). (judged_lines runner_of ls).refused) (schedule-lines cs d)
     ∙ all-taken pool_runner.course 2 cs d
     (λ pre post e. story-awaits pre (first-calls pre post (subst AreCalls e (are-calls cs d))))
     (omega (arith, calls-counted count (first_place number)))
