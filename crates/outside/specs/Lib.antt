@@ -3,5 +3,13 @@ pub mod Reads
 pub mod Puts
 pub mod Outputs
 pub mod Pacings
+pub mod Descriptors
+pub mod Tellings
+pub mod Links
+pub mod LinkCalls
+pub mod Scripts
+pub mod Notes
+pub mod Clocks
+pub mod Runs
 pub mod InMemory
 pub mod StdEnds

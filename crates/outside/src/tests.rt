@@ -5,7 +5,7 @@ use std::fmt::InlineText;
 use std::io;
 use std::io::{ErrorKind, Read, Write};
 use std::test::Fail;
-use tree_specs::Memory;
+use tree_specs::{Act, Input, Memory, Moment, Obj, Want, Wants, What};
 
 #[test]
 fn a_source_in_memory_gives_its_bytes_and_fails_when_told(rt: HostRuntime) -> Result<(), Fail> {
@@ -154,4 +154,130 @@ fn a_writer_that_takes_nothing_fails(rt: HostRuntime) -> Result<(), Fail> {
 fn a_fault_has_its_message(rt: HostRuntime) {
     let text: InlineText<64> = InlineText::of(PutError::Write);
     assert_eq!(rt; text.as_str(), "a write failed");
+}
+
+fn ready(rt: &HostRuntime, list: &[Want]) -> Result<Input, Fail> {
+    match Wants::make(list.to_vec(rt.alloc())?) {
+        Some(wants) => Ok(Input::Ready(wants)),
+        None => Ok(Input::Again),
+    }
+}
+
+const LISTENER: [Want; 1] = [Want { fd: 0, flags: 1 }];
+
+// A link's answers, and then the link, are lent to a function, so that they are dropped at one place and not at each way out.
+fn push_some(rt: &HostRuntime, answers: &mut Vec<Input>) -> Result<(), Fail> {
+    answers.push(ready(rt, &LISTENER)?)?;
+    answers.push(Input::Took(1))?;
+    answers.push(ready(rt, &[])?)?;
+    answers.push(Input::Wrote(2))?;
+    answers.push(Input::End)?;
+    Ok(())
+}
+
+fn gives_in_order(rt: &HostRuntime, link: &mut MemLink) -> Result<(), Fail> {
+    assert_eq!(rt; link.listen("/tmp/link")?, Done::Done);
+    let mut found = Vec::new(rt.alloc());
+    assert_eq!(rt; link.wait(&LISTENER, 9, &mut found)?, Done::Done);
+    assert_eq!(rt; found.as_slice(), LISTENER.as_slice());
+    assert_eq!(rt; link.accept(0)?, Accepted::Took(1));
+    assert_eq!(rt; link.wait(&LISTENER, 9, &mut found)?, Done::Done);
+    assert_eq!(rt; found.len(), 0);
+    assert_eq!(rt; link.write(1, b"abc"), LinkWrote::Wrote(2));
+    assert_eq!(rt; link.read(1, &mut [0u8; 4]), LinkRead::End);
+    assert_eq!(rt; link.read(1, &mut [0u8; 4]), LinkRead::Again);
+    link.close(1);
+    assert_eq!(rt; link.accept(0)?, Accepted::Again);
+    Ok(())
+}
+
+#[test]
+fn a_link_in_memory_gives_its_answers_in_order(rt: HostRuntime) -> Result<(), Fail> {
+    let mut answers = Vec::new(rt.alloc());
+    push_some(&rt, &mut answers)?;
+    let mut link = MemLink::new(rt.alloc(), answers, Vec::new(rt.alloc()), 16, 16)?;
+    gives_in_order(&rt, &mut link)
+}
+
+fn push_a_wait_and_a_write(rt: &HostRuntime, answers: &mut Vec<Input>) -> Result<(), Fail> {
+    answers.push(ready(rt, &LISTENER)?)?;
+    answers.push(Input::Wrote(2))?;
+    Ok(())
+}
+
+fn gives_what_fits(rt: &HostRuntime, link: &mut MemLink) -> Result<(), Fail> {
+    let mut found = Vec::new(rt.alloc());
+    assert_eq!(rt;
+        link.wait(&[Want { fd: 5, flags: 1 }], 9, &mut found)?,
+        Done::Done
+    );
+    assert_eq!(rt; found.len(), 0);
+    assert_eq!(rt; link.write(1, b"abc"), LinkWrote::Again);
+    assert_eq!(rt; link.wait(&LISTENER, 9, &mut found)?, Done::Done);
+    assert_eq!(rt; found.as_slice(), LISTENER.as_slice());
+    assert_eq!(rt; link.write(1, b"a"), LinkWrote::Again);
+    assert_eq!(rt; link.write(1, b"abc"), LinkWrote::Wrote(2));
+    Ok(())
+}
+
+#[test]
+fn an_answer_that_does_not_fit_stays_the_next_one(rt: HostRuntime) -> Result<(), Fail> {
+    let mut answers = Vec::new(rt.alloc());
+    push_a_wait_and_a_write(&rt, &mut answers)?;
+    let mut link = MemLink::new(rt.alloc(), answers, Vec::new(rt.alloc()), 16, 16)?;
+    gives_what_fits(&rt, &mut link)
+}
+
+fn fails_at_its_second_call(rt: &HostRuntime, link: &mut MemLink) -> Result<(), Fail> {
+    assert_eq!(rt; link.listen("/tmp/link")?, Done::Done);
+    let mut ready = Vec::new(rt.alloc());
+    assert_eq!(rt; link.wait(&[], 9, &mut ready)?, Done::Failed);
+    assert_eq!(rt; link.wait(&[], 9, &mut ready)?, Done::Done);
+    Ok(())
+}
+
+#[test]
+fn a_link_in_memory_fails_when_told(rt: HostRuntime) -> Result<(), Fail> {
+    let fails = [2u64].to_vec(rt.alloc())?;
+    let mut link = MemLink::new(rt.alloc(), Vec::new(rt.alloc()), fails, 4, 0)?;
+    fails_at_its_second_call(&rt, &mut link)
+}
+
+fn returns_in_order(rt: &HostRuntime, routines: &mut MemRoutines) -> Result<(), Fail> {
+    for expected in [7, 0, 0] {
+        let act = routines.answer(&moment())?;
+        assert!(rt; matches!(act, Act::Ret(value) if value == expected));
+    }
+    Ok(())
+}
+
+#[test]
+fn times_and_acts_in_memory_end_with_the_last_time_and_with_0(rt: HostRuntime) -> Result<(), Fail> {
+    let mut clock = MemClock::new([3u64, 5].to_vec(rt.alloc())?);
+    for expected in [3, 5, 5] {
+        assert_eq!(rt; clock.now(), expected);
+    }
+    let mut acts = Vec::new(rt.alloc());
+    acts.push(Act::Ret(7))?;
+    let mut routines = MemRoutines::new(acts);
+    returns_in_order(&rt, &mut routines)
+}
+
+fn moment() -> Moment {
+    Moment {
+        what: What::Hook,
+        object: Obj(1),
+        routine: 16,
+        user: 0,
+        now: 0,
+        flags: 0,
+        step: 0,
+        last: None,
+    }
+}
+
+#[test]
+fn the_clock_of_the_runtime_is_past_2020(rt: HostRuntime) {
+    let mut clock = WallClock::new(&rt);
+    assert!(rt; clock.now() > 1_577_836_800_000_000);
 }
