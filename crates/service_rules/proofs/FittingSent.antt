@@ -77,7 +77,7 @@ fitting-go-out is js acts e strays apart =
     let one : 1 ≤ 1 = omega arith in
     let c = recorded seen_table with_mildness K C IsWhole tale tells mild-kept n [] first-known (begin 1).innermost [] (begin 1).pool is (begin-whole 1 one) (begin-whole 1 one, tt, (λ more. refl), λ b. refl) in
     let f : filled with_mildness n first-known machine is ≡ Some js =
-        filled-logged mildness with_fairness n ((nothing_known, nothing_sent), true) true machine is ∙ filled-logged fairness with_ledger n (nothing_known, nothing_sent) true machine is ∙ filled-logged ledger station n nothing_known nothing_sent machine is ∙ e in
+    filled-logged mildness with_fairness n ((nothing_known, nothing_sent), true) true machine is ∙ filled-logged fairness with_ledger n (nothing_known, nothing_sent) true machine is ∙ filled-logged ledger station n nothing_known nothing_sent machine is ∙ e in
     let f' : filled with_mildness n first-known (sights_of (begin 1)) is ≡ Some js = ap (λ (s : Story Input Sight). filled with_mildness n first-known s is) same-story ∙ f in
     let g : C js (after with_mildness (sights_of (begin 1) js) first-known is) = some-fair (sights_of (begin 1)) is js (filled with_mildness n first-known (sights_of (begin 1)) is) f' c in
     let g' : C js (after with_mildness (machine js) first-known is) = subst (λ (s : Story Input Sight). C js (after with_mildness (s js) first-known is)) same-story g in
