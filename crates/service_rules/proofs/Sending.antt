@@ -129,7 +129,7 @@ kept = record { kept = step-keeps }
 abbrev first-known : Known
 first-known = ((nothing_known, nothing_sent), true)
 
-begins : (next : ℕ) → Fine nothing_known nothing_sent (begin next).innermost [] next
+pub begins : (next : ℕ) → Fine nothing_known nothing_sent (begin next).innermost [] next
 begins next = record {
   keeps = record { sorted = tt; distinct = λ k j c e h. cc; young = λ k h. refl; unsaid = λ k h. refl };
   stands = ((λ k c h. cc), tt);
