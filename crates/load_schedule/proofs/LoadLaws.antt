@@ -29,6 +29,6 @@ pub load-front : (number count : ℕ) (held : Option (List ℕ)) → PutsFiveLin
 load-front number count held =
     let front : IsFrontOf (load_schedule number count) None None = not-begun (Some (load_schedule number count)) None in
     elim front.text [
-        inl text ↦ record { transcript = front.front ++ text.0; replayed = text.1; put = (0, Appends-nil held) }
-        | inr out ↦ (let no : Some Pool ≡ Some Service = sym (load-runs number count) ∙ out.0 in absurd cc)
+      | inl text ↦ record { transcript = front.front ++ text.0; replayed = text.1; put = (0, Appends-nil held) }
+      | inr out ↦ (let no : Some Pool ≡ Some Service = sym (load-runs number count) ∙ out.0 in absurd cc)
     ]
