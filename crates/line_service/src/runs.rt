@@ -72,7 +72,9 @@ pub fn prepare(
 {
     let ask = outside_question(host).ok_or(OfferFault::NotAsked)?;
     host.check(input)?;
-    let left = left.checked_add(MORE_ANSWERS - 1).ok_or(OfferFault::Memory)?;
+    let left = left
+        .checked_add(MORE_ANSWERS - 1)
+        .ok_or(OfferFault::Memory)?;
     desk.reserve_run()?;
     Ok((Change::of(ask, input), left))
 }

@@ -41,10 +41,12 @@ impl Station {
     {
         match due {
             None => self.find_due(),
-            Some(Task::Serve {
-                session,
-                at: Serving::Lines,
-            }) => self.do_line(session),
+            Some(
+                Task::Serve {
+                    session,
+                    at: Serving::Lines,
+                },
+            ) => self.do_line(session),
             Some(task) => self.do_task(task),
         }
     }

@@ -27,7 +27,7 @@ use Rattle.tree_specs.specs.Events.Rotation.{closes_with}
 use Rattle.tree_specs.specs.Tree.Heirs.{heir}
 use Rattle.tree_specs.specs.Words.Ranges.{is_sound_call}
 use Rattle.tree_specs.specs.Rules.Items.{Item}
-use Rattle.tree_specs.specs.Rules.Items.Item.{Told, Asked}
+use Rattle.tree_specs.specs.Rules.Items.Item.{Told}
 use Rattle.tree_specs.specs.Rules.Sequence.{Work, Scene, CallStart, gives}
 use Rattle.tree_specs.specs.Rules.Answers.{freed_reply}
 use Rattle.tree_specs.specs.Rules.Pieces.{lets_go, hand_on, effect, turned, work_by}

@@ -1,6 +1,5 @@
 -- What a line, and the end of a schedule, do to what runs the lines and to the text that is written.
-use Rattle.std.proofs.Common.{◌≡◌, ℕ, ◌+◌, ◌≤◌, true, false, List, [], ◌∷◌, ◌++◌, length, Option, Some, None, Ok, Err, refl, sym, ap, subst, ◌∙◌, append_assoc}
-use Rattle.std.proofs.lemmas.List.{append-nil}
+use Rattle.std.proofs.Common.{◌≡◌, ℕ, ◌+◌, ◌≤◌, true, false, List, [], ◌∷◌, ◌++◌, length, Option, Some, None, refl, sym, ap, subst, ◌∙◌, append_assoc}
 use Rattle.tree_specs.specs.declared.question.Ask.{Ask}
 use Rattle.tree_specs.specs.declared.schedule.Reason.{Reason}
 use Rattle.tree_specs.specs.declared.schedule.Reason.TheVariants.{Form}
@@ -14,8 +13,8 @@ use Rattle.schedule_replay.specs.declared.stop.Stop.TheVariants as errors
 use Rattle.schedule_replay.specs.Questions.{answered_of, end_of}
 use Rattle.schedule_replay.specs.Plays.{RefusesHere}
 use Rattle.schedule_replay.specs.Replays.{Replayed, behind, with_front, replayed_lines, BeginsText, StopsWith, EndsWith}
-use Rattle.schedule_replay.specs.Standings.{Standing, runner_of, Waits, Follows, once, unfit, TakesInput, TakesAtOnce, TellsAll, TellsFront}
-use Rattle.schedule_replay.proofs.TextLaws.{begins_behind, begins_it, front-front, taken-back}
+use Rattle.schedule_replay.specs.Standings.{Standing, runner_of, Waits, once, unfit, TakesInput, TakesAtOnce, TellsAll, TellsFront}
+use Rattle.schedule_replay.proofs.TextLaws.{begins_behind, begins_it, front-front}
 use Rattle.schedule_replay.proofs.RunLaws.{follows-then, follows-lines, accepts, begins-accepted, refuses, misfits, no-input, cut-input, no-more}
 
 -- ---- a refusal

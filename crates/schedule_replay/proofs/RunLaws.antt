@@ -1,19 +1,17 @@
 -- Running lines by a machine, whatever it is.
-use Rattle.std.proofs.Common.{◌≡◌, ℕ, ◌+◌, ◌≤◌, Bool, true, false, ltb, ◌||◌, List, [], ◌∷◌, ◌++◌, length, Option, Some, None, Result, Ok, Err, OnOk, refl, sym, ap, subst, ◌∙◌, append_assoc, arith}
+use Rattle.std.proofs.Common.{◌≡◌, ℕ, ◌+◌, ◌≤◌, true, false, ltb, List, [], ◌∷◌, ◌++◌, length, Option, Some, None, Result, Ok, Err, OnOk, refl, sym, ap, ◌∙◌, append_assoc, arith}
 use Rattle.std.proofs.lemmas.List.{append-nil}
 use Rattle.std.proofs.lemmas.Bool.Decides.{nat_tests}
-use Rattle.tree_specs.specs.declared.memory.Memory.{Memory}
 use Rattle.tree_specs.specs.declared.question.Ask.{Ask}
 use Rattle.tree_specs.specs.declared.schedule.Reason.{Reason}
 use Rattle.tree_specs.specs.declared.schedule.Reason.TheVariants.{Limit, Form}
 use Rattle.tree_specs.specs.Texts.Lines.{Line, is_over_limit, line_limit, lines_limit}
-use Rattle.tree_specs.specs.Texts.Runners.{Course, Runner, Judged, once_given, fitting, ok_unless, unless_stray, why_not, line_input, judged_one, judged_from}
+use Rattle.tree_specs.specs.Texts.Runners.{Course, Runner, once_given, fitting, ok_unless, unless_stray, why_not, line_input, judged_one, judged_from}
 use Rattle.tree_specs.specs.Texts.Text.{end_text}
 use Rattle.tree_specs.specs.Texts.Written.{WritesFront}
 use Rattle.line_pieces.specs.Cuts.{ended_line}
-use Rattle.schedule_replay.specs.Questions.{answered_of}
-use Rattle.schedule_replay.specs.Replays.{Replayed, behind, with_front, replayed_lines, BeginsText}
-use Rattle.schedule_replay.specs.Standings.{Standing, runner_of, Waits, Follows, once, unfit, TakesInput, TellsAll, TellsFront}
+use Rattle.schedule_replay.specs.Replays.{behind, with_front, replayed_lines, BeginsText}
+use Rattle.schedule_replay.specs.Standings.{Standing, runner_of, Waits, Follows, once, unfit, TellsAll, TellsFront}
 use Rattle.schedule_replay.proofs.TextLaws.{behind-behind, behind-nil, begins_behind, begins_front, begins_it}
 
 -- ---- results

@@ -1,5 +1,5 @@
 -- Replaying what a source gives, piece by piece.
-use Rattle.std.proofs.Common.{◌≡◌, ◌≤◌, ℕ, true, false, List, [], ◌∷◌, ◌++◌, take, Option, Some, None, Result, Ok, Err, refl, sym, ap, subst, ◌∙◌, append_assoc, arith}
+use Rattle.std.proofs.Common.{◌≡◌, ◌≤◌, ℕ, false, List, [], ◌∷◌, ◌++◌, take, Option, Some, None, Result, Ok, Err, refl, sym, ap, subst, ◌∙◌, append_assoc, arith}
 use Rattle.std.specs.Prelude.{IfSome}
 use Rattle.std.specs.Io.KnownBytes.{Appends, Consumes, IsAtEnd, Keeps}
 use Rattle.std.proofs.KnownBytes.{Consumes-nil, Appends-nil, Appends-trans, Consumes-trans, Consumes-kept}
@@ -24,12 +24,12 @@ use Rattle.schedule_replay.specs.declared.stop.Stop.{Stop}
 use Rattle.schedule_replay.specs.declared.stop.Stop.TheVariants as errors
 use Rattle.schedule_replay.specs.Hosts.{host_standing}
 use Rattle.schedule_replay.specs.Stations.{station_standing}
-use Rattle.schedule_replay.specs.Passes.{stop_of_put, StopsPut, IsFresh, Passed, PassesPiece, TakesEnd, PassesEnd}
+use Rattle.schedule_replay.specs.Passes.{stop_of_put, StopsPut, IsFresh, PassesPiece, TakesEnd, PassesEnd}
 use Rattle.schedule_replay.specs.Replays.{Replayed, behind, with_front, replayed_lines, BeginsText, StopsWith}
 use Rattle.schedule_replay.specs.Runs.{Replays, ran_of, IsCutShort, IsCutTranscript}
 use Rattle.schedule_replay.specs.Stages.{IsAtHeader, replayed_all, comes, text_in, ready, stops, ends, IsEmptied}
-use Rattle.schedule_replay.specs.Standings.{Waits, runner_of}
-use Rattle.schedule_replay.proofs.TextLaws.{behind-nil, begins_nil, begins_behind, begins_less, begins_it, front-nil, front-front}
+use Rattle.schedule_replay.specs.Standings.{runner_of}
+use Rattle.schedule_replay.proofs.TextLaws.{behind-nil, begins_behind, begins_less, begins_it, front-nil, front-front}
 use Rattle.schedule_replay.proofs.RunLaws.{no-more}
 use Rattle.schedule_replay.proofs.WholeLaws.{header-ends, judge_is, text_is, is_done, is_bad, is_front}
 
@@ -43,6 +43,7 @@ staged u w = record { taker = w; number = u.number; line = u.line }
 text-front : (s : Stage) (n : ℕ) (ls : List Line) → (o : Option (List ℕ)) × ((comes s n ls).text ≡ behind (text_in s) o)
 text-front (Header alloc) n ls = ((replayed_all ls).text, behind-nil (replayed_all ls).text)
 text-front (Pool play) n ls = ((replayed_lines (runner_of input_of misfit (host_standing play.machine)) n ls).text, refl)
+text-front (Service play) n ls = ((replayed_lines (runner_of input_of misfit (station_standing play.machine)) n ls).text, refl)
 
 -- a prefix of what is to be written begins what is found
 stop-front : (e : Stop) (n : ℕ) (text : List ℕ) (found : Replayed) → StopsWith e text found → BeginsText (take n text) found.text
@@ -133,6 +134,7 @@ pub record SoFar (left left_now held held_now : Option (List ℕ)) (t : Reading 
 at-header : (s : Stage) (n : ℕ) (ls : List Line) → IsAtHeader s → comes s n ls ≡ replayed_all ls
 at-header (Header alloc) n ls h = refl
 at-header (Pool play) n ls h = absurd h
+at-header (Service play) n ls h = absurd h
 
 pub fresh-empty : (t : Reading Stage) → IsFresh t → text_in t.taker ≡ []
 fresh-empty t f = ap (λ (r : Reading Stage). text_in r.taker) f.2 ∙ header-empty f.0 f.1
@@ -140,6 +142,7 @@ fresh-empty t f = ap (λ (r : Reading Stage). text_in r.taker) f.2 ∙ header-em
     header-empty : (s : Stage) → IsAtHeader s → text_in s ≡ []
     header-empty (Header alloc) h = refl
     header-empty (Pool play) h = absurd h
+    header-empty (Service play) h = absurd h
 
 pub so-far-none : (left held : Option (List ℕ)) (t : Reading Stage) → IsFresh t → SoFar left left held held t
 so-far-none left held t f = record {

@@ -1,10 +1,9 @@
 -- What a line, and the end of a schedule, do at each stage.
-use Rattle.std.proofs.Common.{◌≡◌, ℕ, ◌+◌, ◌≤◌, Bool, true, List, [], ◌∷◌, length, Option, Some, None, Result, Ok, Err, refl, sym, ap, subst, ◌∙◌}
+use Rattle.std.proofs.Common.{◌≡◌, ℕ, ◌+◌, ◌≤◌, Bool, true, List, [], ◌∷◌, length, Some, Result, Ok, Err, refl, sym, ap, subst, ◌∙◌}
 use Rattle.tree_specs.specs.declared.schedule.Reason.TheVariants.{Limit, Form}
 use Rattle.tree_specs.specs.Texts.Grammar.{input_of}
 use Rattle.tree_specs.specs.Texts.Lines.{Line, is_over_limit, line_limit}
 use Rattle.tree_specs.specs.Texts.Schedule.{misfit}
-use Rattle.tree_specs.specs.Texts.Text.{header}
 use Rattle.line_pieces.specs.Cuts.{ended_line}
 use Rattle.line_pieces.specs.Takings.{TakesLine, last_lines}
 use Rattle.schedule_replay.specs.declared.stage.Stage.{Stage}
@@ -13,7 +12,7 @@ use Rattle.schedule_replay.specs.declared.stop.Stop.{Stop}
 use Rattle.schedule_replay.specs.declared.stop.Stop.TheVariants as errors
 use Rattle.schedule_replay.specs.Hosts.{host_standing}
 use Rattle.schedule_replay.specs.Stations.{station_standing}
-use Rattle.schedule_replay.specs.Replays.{Replayed, with_front, replayed_lines, BeginsText}
+use Rattle.schedule_replay.specs.Replays.{replayed_lines, BeginsText}
 use Rattle.schedule_replay.specs.Stages.{IsAtHeader, replayed_all, comes, text_in, ready, stops, TakesHeader}
 use Rattle.schedule_replay.specs.Standings.{runner_of}
 use Rattle.schedule_replay.proofs.TextLaws.{begins_nil, begins_it}

@@ -5,7 +5,6 @@ use Rattle.tree_specs.specs.declared.event.Event.{Event}
 use Rattle.tree_specs.specs.declared.memory.Memory.{Memory}
 use Rattle.tree_specs.specs.declared.question.Ask.{Ask}
 use Rattle.tree_specs.specs.declared.question.Input.{Input}
-use Rattle.tree_specs.specs.declared.schedule.Reason.{Reason}
 use Rattle.tree_specs.specs.declared.schedule.Reason.TheVariants.{NotAsked, Token}
 use Rattle.tree_specs.specs.Rules.Items.{Item, IsQuestion}
 use Rattle.tree_specs.specs.Rules.Items.Item.{Told, Asked}
@@ -23,7 +22,7 @@ use Rattle.host_core.proofs.Reaching.{no-reason}
 use Rattle.host_core.proofs.Straying.{taken-fits}
 use Rattle.schedule_replay.specs.Questions.{answered_of}
 use Rattle.schedule_replay.specs.Replays.{behind}
-use Rattle.schedule_replay.specs.Standings.{Waits, Follows, once, unfit, TakesInput, Nexts}
+use Rattle.schedule_replay.specs.Standings.{Waits, Follows, unfit, TakesInput, Nexts}
 use Rattle.schedule_replay.specs.Stations.{station_standing}
 use Rattle.schedule_replay.proofs.ItemLaws.{told-first, question-told, asked-first, question-asked, last-question, last-text}
 use Rattle.schedule_replay.proofs.RunLaws.{why-now, on-ok}

@@ -1,6 +1,6 @@
 -- Texts behind texts.
 use Rattle.std.proofs.Common.{◌≡◌, ℕ, List, [], ◌∷◌, ◌++◌, take, drop, length, Option, Some, None, refl, sym, ap, ◌∙◌, append_assoc}
-use Rattle.std.proofs.lemmas.List.{append-nil, take-append-drop}
+use Rattle.std.proofs.lemmas.List.{take-append-drop}
 use Rattle.tree_specs.specs.Texts.Written.{IsFront}
 use Rattle.schedule_replay.specs.Replays.{Replayed, behind, with_front, BeginsText}
 

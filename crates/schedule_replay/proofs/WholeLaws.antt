@@ -1,5 +1,5 @@
 -- A whole replay, in the words of schedules and transcripts: their first line says what runs the others.
-use Rattle.std.proofs.Common.{◌≡◌, ℕ, suc, ◌+◌, ◌<◌, ◌≤◌, Bool, true, false, cond, ltb, ◌||◌, ◌⊎◌, inl, inr, List, [], ◌∷◌, ◌++◌, length, Option, Some, None, Result, Ok, Err, refl, sym, ap, subst, ◌∙◌, arith}
+use Rattle.std.proofs.Common.{◌≡◌, ℕ, suc, ◌<◌, ◌≤◌, Bool, true, false, cond, ltb, ◌||◌, ◌⊎◌, inl, inr, List, [], ◌∷◌, ◌++◌, length, Option, Some, None, refl, sym, ap, subst, ◌∙◌, arith}
 use Rattle.std.specs.Io.KnownBytes.{Appends, IsAtEnd}
 use Rattle.std.specs.Option.{option_map}
 use Rattle.std.specs.Prelude.{IfSome}
@@ -18,7 +18,7 @@ use Rattle.tree_specs.specs.Rules.Items.{Item, IsQuestion}
 use Rattle.tree_specs.specs.Rules.Items.Item.{Told, Asked}
 use Rattle.tree_specs.specs.Rules.Story.{story, items}
 use Rattle.tree_specs.specs.Texts.Grammar.{input_of}
-use Rattle.tree_specs.specs.Texts.Lines.{Line, lines, is_over_limit, line_limit, lines_limit}
+use Rattle.tree_specs.specs.Texts.Lines.{Line, lines, is_over_limit, line_limit}
 use Rattle.tree_specs.specs.Texts.Runners.{Runner, header_reason, runner_after, judged_lines, transcript_by, transcript_lines}
 use Rattle.tree_specs.specs.Texts.Schedule.{pool_header, service_header, mode_of, misfit, runner_by, pool_runner}
 use Rattle.tree_specs.specs.Texts.Text.{header, item_text, body_text, end_text}
@@ -160,11 +160,13 @@ Has : Option (List ℕ) → Option Mode → List Input → Type 0
 Has o mode is = ((text : List ℕ) × (o ≡ Some text)) ⊎ ((mode ≡ Some Service) × (service_story is ≡ []))
 
 runner-text : (m : Option Mode) (is : List Input) → Has (transcript_by runs (option_map runner_in m) is) m is
+unfolding Has
 runner-text (Some Pool) is = let t = text_some (items (story 1 is)) (story-asks 1 is (omega arith)) in inl (header ++ t.0, rw t.1 refl)
 runner-text (Some Service) is = elim (service-text is) [ inl t ↦ inl (header ++ t.0, ap (option_map (λ (text : List ℕ). header ++ text)) t.1) | inr out ↦ inr (refl, out) ]
 runner-text None is = inl ([], refl)
 
 first-text : (line : Line) (is : List Input) → Has (transcript_by runs (runner_after runs line) is) (mode_in (line ∷ [])) is
+unfolding Has
 first-text line is = by_ended line.ended
   where
     by_ended : (b : Bool) → Has (transcript_by runs (cond b (runs line.text) None) is) (cond b (mode_of line.text) None) is
@@ -172,7 +174,7 @@ first-text line is = by_ended line.ended
     by_ended false = inl ([], refl)
 
 lines-text : (ls : List Line) → Has (transcript_lines runs ls) (mode_in ls) (judged_lines runs ls).inputs
-unfolding transcript_lines
+unfolding transcript_lines Has
 lines-text [] = inl ([], refl)
 lines-text (first ∷ rest) = first-text first (judged_lines runs (first ∷ rest)).inputs
 
@@ -191,6 +193,7 @@ is_bad bytes held now text line reason e put =
     record { refused = judge_is bytes (Some text) (Some (line, reason)) e; text = writes _ text held now (text_is bytes (Some text) (Some (line, reason)) e) put }
 
 pub is_front : (bytes : List ℕ) (held now : Option (List ℕ)) (front : List ℕ) → BeginsText front (replayed_all (lines bytes)).text → Appends held now front → IsFrontOf bytes held now
+unfolding Has
 is_front bytes held now front begins put = record { front = front; put = put; text = elim (lines-text (lines bytes)) [ inl t ↦ inl (of t.0 t.1) | inr out ↦ inr out ] }
   where
     of : (text : List ℕ) → transcript_of bytes ≡ Some text → (rest : List ℕ) × (transcript_of bytes ≡ Some (front ++ rest))

@@ -16,7 +16,7 @@ use line_service::Station;
 use schedule_text::read_header;
 use std::alloc::Global;
 use std::mem;
-use tree_specs::{Mode, Reason};
+use tree_specs::{Memory, Mode, Reason};
 
 /// What the first line says of those after it. None where it is no header.
 fn mode(header: &[u8]) -> Option<Mode>
@@ -26,19 +26,17 @@ fn mode(header: &[u8]) -> Option<Mode>
 }
 
 /// A host that runs the lines of a schedule.
-fn begin_pool(alloc: Global) -> Result<Play<Host>, Stop>
+fn begin_pool(alloc: Global) -> Result<Play<Host>, Memory>
     ensures { IfOk result (λ play. Begins input_of misfit host_standing (begin 1) play) }
 {
-    let play = Play::begin(alloc, Host::new(alloc, 1)?)?;
-    Ok(play)
+    Play::begin(alloc, Host::new(alloc, 1)?)
 }
 
 /// A line service that runs them.
-fn begin_service(alloc: Global) -> Result<Play<Station>, Stop>
+fn begin_service(alloc: Global) -> Result<Play<Station>, Memory>
     ensures { IfOk result BeginsService }
 {
-    let play = Play::begin(alloc, Station::new(alloc)?)?;
-    Ok(play)
+    Play::begin(alloc, Station::new(alloc)?)
 }
 
 /// What takes the lines of a schedule.

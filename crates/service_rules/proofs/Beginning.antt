@@ -150,7 +150,7 @@ rest-asked d l fs p k w = record { before = λ e. cc; outside = λ e. cc; itself
         subst (λ (z : Input × Knowledge). Fine z.1 (says l d (Some z)) h fs p.next) i
         (by_test (is_sound_call (resting_call d.setup))
         (λ b. let k' : Some (doing ask.Quiet (resting_call d.setup)) ≡ Some h = rw b at t' in
-            let j : doing ask.Quiet (resting_call d.setup) ≡ h = cc in subst (λ (z : Frame). Fine e (speaks l d e) z fs p.next) j quiet)
+        let j : doing ask.Quiet (resting_call d.setup) ≡ h = cc in subst (λ (z : Frame). Fine e (speaks l d e) z fs p.next) j quiet)
         (λ b. let k' : None ≡ Some h = rw b at t' in cc))
 
 -- ---- a routine

@@ -24,27 +24,28 @@ module _ {A : Type 0} where
   pub found-other : (q k : ℕ) (v : A) (es : List (ℕ × A)) → eq_by_cmp nat_cmp q k ≡ false → find nat_cmp q (put nat_cmp k v es) ≡ find nat_cmp q es
   found-other q k v es t = find-put nat_cmp nat_cmp_total q k v es ∙ ap (λ b. cond b (Some v) (find nat_cmp q es)) t
 
-  -- what is found without an object was found with it
+  -- an object is not found without it
+  pub found-gone : (q : ℕ) (x : Obj) (es : List (ℕ × A)) (v : A) → x.0 ≡ q → find nat_cmp q (without x es) ≡ Some v → ⊥
+  found-gone q x [] v e h = cc
+  found-gone q x (f ∷ fs) v e h = by_test (eq_by_cmp nat_cmp x.0 f.0)
+      (λ u. let h' : find nat_cmp q (without x fs) ≡ Some v = rw u at h in found-gone q x fs v e h')
+      (λ u. let h' : cond (eq_by_cmp nat_cmp q f.0) (Some f.1) (find nat_cmp q (without x fs)) ≡ Some v = rw u at h in
+      let t : eq_by_cmp nat_cmp q f.0 ≡ false = subst (λ z. eq_by_cmp nat_cmp z f.0 ≡ false) e u in
+      let h'' : find nat_cmp q (without x fs) ≡ Some v = rw t at h' in found-gone q x fs v e h'')
+
+  -- and what is found was found with it
   pub found-without : (q : ℕ) (x : Obj) (es : List (ℕ × A)) (v : A) → find nat_cmp q (without x es) ≡ Some v → find nat_cmp q es ≡ Some v
   found-without q x [] v e = e
   found-without q x (f ∷ fs) v e = by_test (eq_by_cmp nat_cmp q f.0)
       (λ t. by_test (eq_by_cmp nat_cmp x.0 f.0)
       (λ u. let h : find nat_cmp q (without x fs) ≡ Some v = rw u at e in
-          let i = found-without q x fs v h in
-          absurd (gone q x fs v (same-number x.0 f.0 u ∙ sym (same-number q f.0 t)) h))
+      let i = found-without q x fs v h in
+      absurd (found-gone q x fs v (same-number x.0 f.0 u ∙ sym (same-number q f.0 t)) h))
       (λ u. let h : cond (eq_by_cmp nat_cmp q f.0) (Some f.1) (find nat_cmp q (without x fs)) ≡ Some v = rw u at e in rw t (rw t at h)))
       (λ t. by_test (eq_by_cmp nat_cmp x.0 f.0)
       (λ u. let h : find nat_cmp q (without x fs) ≡ Some v = rw u at e in rw t (found-without q x fs v h))
       (λ u. let h : cond (eq_by_cmp nat_cmp q f.0) (Some f.1) (find nat_cmp q (without x fs)) ≡ Some v = rw u at e in
-          let h' : find nat_cmp q (without x fs) ≡ Some v = rw t at h in rw t (found-without q x fs v h')))
-    where
-      gone : (q : ℕ) (x : Obj) (es : List (ℕ × A)) (v : A) → x.0 ≡ q → find nat_cmp q (without x es) ≡ Some v → ⊥
-      gone q x [] v e h = cc
-      gone q x (f ∷ fs) v e h = by_test (eq_by_cmp nat_cmp x.0 f.0)
-          (λ u. let h' : find nat_cmp q (without x fs) ≡ Some v = rw u at h in gone q x fs v e h')
-          (λ u. let h' : cond (eq_by_cmp nat_cmp q f.0) (Some f.1) (find nat_cmp q (without x fs)) ≡ Some v = rw u at h in
-              let t : eq_by_cmp nat_cmp q f.0 ≡ false = subst (λ z. eq_by_cmp nat_cmp z f.0 ≡ false) e u in
-              let h'' : find nat_cmp q (without x fs) ≡ Some v = rw t at h' in gone q x fs v e h'')
+      let h' : find nat_cmp q (without x fs) ≡ Some v = rw t at h in rw t (found-without q x fs v h')))
 
   pub none-without : (q : ℕ) (x : Obj) (es : List (ℕ × A)) → find nat_cmp q es ≡ None → find nat_cmp q (without x es) ≡ None
   none-without q x es e = each (find nat_cmp q (without x es)) refl
@@ -72,7 +73,7 @@ module _ {A : Type 0} where
       missing [] b e s = cc
       missing (f ∷ fs) b e s = by_test (eq_by_cmp nat_cmp q f.0)
           (λ t. let l : T (is_lt (nat_cmp k f.0)) = first (is_lt (nat_cmp k f.0)) _ b in
-              let t' : eq_by_cmp nat_cmp f.0 k ≡ true = subst (λ z. eq_by_cmp nat_cmp z k ≡ true) (sym s ∙ same-number q f.0 t) (itself k) in below-other k fs f l t')
+          let t' : eq_by_cmp nat_cmp f.0 k ≡ true = subst (λ z. eq_by_cmp nat_cmp z k ≡ true) (sym s ∙ same-number q f.0 t) (itself k) in below-other k fs f l t')
           (λ t. let e' : find nat_cmp q fs ≡ Some w = rw t at e in missing fs (second (is_lt (nat_cmp k f.0)) _ b) e' s)
         where
           first : (a c : Bool) → T (a && c) → T a
@@ -103,15 +104,15 @@ pub found-mapped : {A B : Type 0} (g : ℕ → A → B) (q : ℕ) (es : List (�
 found-mapped g q [] v e = cc
 found-mapped {A = A} {B = B} g q (f ∷ fs) v e = by_test (eq_by_cmp nat_cmp q f.0)
     (λ t. let e' : Some f.1 ≡ Some v = rw t at e in
-        let s : q ≡ f.0 = same-number q f.0 t in
-        let w : f.1 ≡ v = cc in
-        ap (λ b. cond b (Some (g f.0 f.1)) (find nat_cmp q (map (λ (e : ℕ × A). (e.0, g e.0 e.1)) fs))) t ∙ ap (λ z. Some (g z f.1)) (sym s) ∙ ap (λ z. Some (g q z)) w)
+    let s : q ≡ f.0 = same-number q f.0 t in
+    let w : f.1 ≡ v = cc in
+    ap (λ b. cond b (Some (g f.0 f.1)) (find nat_cmp q (map (λ (e : ℕ × A). (e.0, g e.0 e.1)) fs))) t ∙ ap (λ z. Some (g z f.1)) (sym s) ∙ ap (λ z. Some (g q z)) w)
     (λ t. let e' : find nat_cmp q fs ≡ Some v = rw t at e in
-        ap (λ b. cond b (Some (g f.0 f.1)) (find nat_cmp q (map (λ (e : ℕ × A). (e.0, g e.0 e.1)) fs))) t ∙ found-mapped g q fs v e')
+    ap (λ b. cond b (Some (g f.0 f.1)) (find nat_cmp q (map (λ (e : ℕ × A). (e.0, g e.0 e.1)) fs))) t ∙ found-mapped g q fs v e')
 
 pub none-mapped : {A B : Type 0} (g : ℕ → A → B) (q : ℕ) (es : List (ℕ × A)) → find nat_cmp q es ≡ None → find nat_cmp q (map (λ (e : ℕ × A). (e.0, g e.0 e.1)) es) ≡ None
 none-mapped g q [] e = refl
 none-mapped {A = A} {B = B} g q (f ∷ fs) e = by_test (eq_by_cmp nat_cmp q f.0)
     (λ t. let e' : Some f.1 ≡ None = rw t at e in cc)
     (λ t. let e' : find nat_cmp q fs ≡ None = rw t at e in
-        ap (λ b. cond b (Some (g f.0 f.1)) (find nat_cmp q (map (λ (e : ℕ × A). (e.0, g e.0 e.1)) fs))) t ∙ none-mapped g q fs e')
+    ap (λ b. cond b (Some (g f.0 f.1)) (find nat_cmp q (map (λ (e : ℕ × A). (e.0, g e.0 e.1)) fs))) t ∙ none-mapped g q fs e')

@@ -116,10 +116,10 @@ appends-then d e f a b = record {
 pub put-each : (d : Knowledge) (P : ℕ → Connection → Type 0) (s : Obj) (c : Connection) → P s.0 c → ((k : ℕ) (e : Connection) → eq_by_cmp nat_cmp k s.0 ≡ false → IsKnown d k e → P k e) → (k : ℕ) (e : Connection) → IsKnown (with_connection s c d) k e → P k e
 put-each d P s c here others k e h = by_test (eq_by_cmp nat_cmp k s.0)
     (λ t. let is : k ≡ s.0 = same-number k s.0 t in
-        let h' : find nat_cmp s.0 (put nat_cmp s.0 c d.connections) ≡ Some e = subst (λ (z : ℕ). find nat_cmp z (put nat_cmp s.0 c d.connections) ≡ Some e) is h in
-        let o : Some c ≡ Some e = sym (found-put s.0 c d.connections) ∙ h' in
-        let o' : c ≡ e = cc in
-        subst (λ (z : ℕ). P z e) (sym is) (subst (λ (z : Connection). P s.0 z) o' here))
+    let h' : find nat_cmp s.0 (put nat_cmp s.0 c d.connections) ≡ Some e = subst (λ (z : ℕ). find nat_cmp z (put nat_cmp s.0 c d.connections) ≡ Some e) is h in
+    let o : Some c ≡ Some e = sym (found-put s.0 c d.connections) ∙ h' in
+    let o' : c ≡ e = cc in
+    subst (λ (z : ℕ). P z e) (sym is) (subst (λ (z : Connection). P s.0 z) o' here))
     (λ t. others k e t (sym (found-other k s.0 c d.connections t) ∙ h))
 
 pub put-none : (d : Knowledge) (s : Obj) (c b : Connection) → IsKnown d s.0 b → (k : ℕ) → find nat_cmp k d.connections ≡ None → find nat_cmp k (with_connection s c d).connections ≡ None

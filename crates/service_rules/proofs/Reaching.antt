@@ -26,8 +26,8 @@ kept-not (f ∷ fs) fd h k c e same = by_test (nat_eq f.1.descriptor fd)
     (λ t. let h' : true ≡ false = rw t at h in cc)
     (λ t. let h' : is_kept fs fd ≡ false = rw t at h in by_test (eq_by_cmp nat_cmp k f.0)
     (λ u. let e' : Some f.1 ≡ Some c = rw u at e in
-        let i : f.1.descriptor ≡ fd = (let j : f.1 ≡ c = cc in ap (λ (z : Connection). z.descriptor) j ∙ same) in
-        let j : nat_eq f.1.descriptor fd ≡ true = eq-eqb f.1.descriptor fd i in cc)
+    let i : f.1.descriptor ≡ fd = (let j : f.1 ≡ c = cc in ap (λ (z : Connection). z.descriptor) j ∙ same) in
+    let j : nat_eq f.1.descriptor fd ≡ true = eq-eqb f.1.descriptor fd i in cc)
     (λ u. let e' : find nat_cmp k fs ≡ Some c = rw u at e in kept-not fs fd h' k c e' same))
 
 abbrev pub accepts_new : ℕ → Ledger → Ledger
@@ -72,10 +72,10 @@ take-first (suc m) (suc n) (b ∷ u) h = ap (λ z. b ∷ z) (take-first m n u (o
 pub none-written : (d : Knowledge) (l : Ledger) (fd : ℕ) (bytes : Bytes) → Goes d l whole → Goes d (writes_more fd bytes 0 l) whole
 none-written d l fd bytes g k c h = by_test (nat_eq c.descriptor fd)
     (λ t. let is : c.descriptor ≡ fd = eqb-true c.descriptor fd t in
-        ap (λ (z : ℕ). bytes_of (writes_more fd bytes 0 l).taken z ++ c.unsent) is
-        ∙ ap (λ (z : Bytes). z ++ c.unsent) (own-bytes fd (bytes_of l.taken fd ++ []) l.taken ∙ append-nil (bytes_of l.taken fd))
-        ∙ ap (λ (z : ℕ). bytes_of l.taken z ++ c.unsent) (sym is)
-        ∙ g k c h)
+    ap (λ (z : ℕ). bytes_of (writes_more fd bytes 0 l).taken z ++ c.unsent) is
+    ∙ ap (λ (z : Bytes). z ++ c.unsent) (own-bytes fd (bytes_of l.taken fd ++ []) l.taken ∙ append-nil (bytes_of l.taken fd))
+    ∙ ap (λ (z : ℕ). bytes_of l.taken z ++ c.unsent) (sym is)
+    ∙ g k c h)
     (λ t. ap (λ (z : Bytes). z ++ c.unsent) (other-bytes fd c.descriptor (bytes_of l.taken fd ++ []) l.taken (λ is. let i : nat_eq c.descriptor fd ≡ true = eq-eqb c.descriptor fd is in cc)) ∙ g k c h)
 
 -- some bytes were
@@ -83,20 +83,20 @@ pub written-goes : (d : Knowledge) (l : Ledger) (next : ℕ) (s : Obj) (e : Conn
     → Goes d (writes_more e.descriptor (take OCTETS_LIMIT e.unsent) n l) (rest_by (task.Serve s serving.Write) (reply.Number n))
 written-goes d l next s e n keeps g known few k c h = by_test (eq_by_cmp nat_cmp k s.0)
     (λ t. let is : k ≡ s.0 = same-number k s.0 t in
-        let h' : find nat_cmp s.0 d.connections ≡ Some c = subst (λ (z : ℕ). find nat_cmp z d.connections ≡ Some c) is h in
-        let same : Some c ≡ Some e = sym h' ∙ known in
-        let same' : c ≡ e = cc in
-        let all : bytes_of l.taken e.descriptor ++ e.unsent ≡ bytes_of l.said k = subst (λ (z : Connection). bytes_of l.taken z.descriptor ++ z.unsent ≡ bytes_of l.said k) same' (g k c h) in
-        let here : bytes_of (writes_more e.descriptor (take OCTETS_LIMIT e.unsent) n l).taken e.descriptor ++ cond (eq_by_cmp nat_cmp k s.0) (drop n e.unsent) e.unsent ≡ bytes_of l.said k =
-            (ap (λ b. bytes_of (writes_more e.descriptor (take OCTETS_LIMIT e.unsent) n l).taken e.descriptor ++ cond b (drop n e.unsent) e.unsent) t
-            ∙ ap (λ (z : Bytes). z ++ drop n e.unsent) (own-bytes e.descriptor (bytes_of l.taken e.descriptor ++ take n (take OCTETS_LIMIT e.unsent)) l.taken)
-            ∙ ap (λ (z : Bytes). (bytes_of l.taken e.descriptor ++ z) ++ drop n e.unsent) (take-first OCTETS_LIMIT n e.unsent few)
-            ∙ append_assoc (bytes_of l.taken e.descriptor) (take n e.unsent) (drop n e.unsent)
-            ∙ ap (λ (z : Bytes). bytes_of l.taken e.descriptor ++ z) (take-drop n e.unsent)
-            ∙ all) in
-        subst (λ (z : Connection). bytes_of (writes_more e.descriptor (take OCTETS_LIMIT e.unsent) n l).taken z.descriptor ++ cond (eq_by_cmp nat_cmp k s.0) (drop n z.unsent) z.unsent ≡ bytes_of l.said k) (sym same') here)
+    let h' : find nat_cmp s.0 d.connections ≡ Some c = subst (λ (z : ℕ). find nat_cmp z d.connections ≡ Some c) is h in
+    let same : Some c ≡ Some e = sym h' ∙ known in
+    let same' : c ≡ e = cc in
+    let all : bytes_of l.taken e.descriptor ++ e.unsent ≡ bytes_of l.said k = subst (λ (z : Connection). bytes_of l.taken z.descriptor ++ z.unsent ≡ bytes_of l.said k) same' (g k c h) in
+    let here : bytes_of (writes_more e.descriptor (take OCTETS_LIMIT e.unsent) n l).taken e.descriptor ++ cond (eq_by_cmp nat_cmp k s.0) (drop n e.unsent) e.unsent ≡ bytes_of l.said k =
+    (ap (λ b. bytes_of (writes_more e.descriptor (take OCTETS_LIMIT e.unsent) n l).taken e.descriptor ++ cond b (drop n e.unsent) e.unsent) t
+    ∙ ap (λ (z : Bytes). z ++ drop n e.unsent) (own-bytes e.descriptor (bytes_of l.taken e.descriptor ++ take n (take OCTETS_LIMIT e.unsent)) l.taken)
+    ∙ ap (λ (z : Bytes). (bytes_of l.taken e.descriptor ++ z) ++ drop n e.unsent) (take-first OCTETS_LIMIT n e.unsent few)
+    ∙ append_assoc (bytes_of l.taken e.descriptor) (take n e.unsent) (drop n e.unsent)
+    ∙ ap (λ (z : Bytes). bytes_of l.taken e.descriptor ++ z) (take-drop n e.unsent)
+    ∙ all) in
+    subst (λ (z : Connection). bytes_of (writes_more e.descriptor (take OCTETS_LIMIT e.unsent) n l).taken z.descriptor ++ cond (eq_by_cmp nat_cmp k s.0) (drop n z.unsent) z.unsent ≡ bytes_of l.said k) (sym same') here)
     (λ t. ap (λ b. bytes_of (writes_more e.descriptor (take OCTETS_LIMIT e.unsent) n l).taken c.descriptor ++ cond b (drop n c.unsent) c.unsent) t
-        ∙ ap (λ (z : Bytes). z ++ c.unsent) (other-bytes e.descriptor c.descriptor (bytes_of l.taken e.descriptor ++ take n (take OCTETS_LIMIT e.unsent)) l.taken
-            (λ same. let is : k ≡ s.0 = keeps.distinct k s.0 c e h known same in
-                let i : eq_by_cmp nat_cmp k s.0 ≡ true = subst (λ (z : ℕ). eq_by_cmp nat_cmp k z ≡ true) is (itself k) in cc))
-        ∙ g k c h)
+    ∙ ap (λ (z : Bytes). z ++ c.unsent) (other-bytes e.descriptor c.descriptor (bytes_of l.taken e.descriptor ++ take n (take OCTETS_LIMIT e.unsent)) l.taken
+    (λ same. let is : k ≡ s.0 = keeps.distinct k s.0 c e h known same in
+    let i : eq_by_cmp nat_cmp k s.0 ≡ true = subst (λ (z : ℕ). eq_by_cmp nat_cmp k z ≡ true) is (itself k) in cc))
+    ∙ g k c h)

@@ -115,9 +115,11 @@ write-after d l next fd bytes n k g few (task.Serve s serving.Write) a =
     let i : fd ≡ a.0.descriptor = cc in
     let j : bytes ≡ take OCTETS_LIMIT a.0.unsent = cc in
     let few' : n ≤ length (take OCTETS_LIMIT a.0.unsent) = subst (λ (z : List ℕ). n ≤ length z) j few in
-    let goes : Goes d (writes_more a.0.descriptor (take OCTETS_LIMIT a.0.unsent) n l) (rest_by (task.Serve s serving.Write) (reply.Number n)) = written-goes d l next s a.0 n k g a.1 few' in
-    (tt, subst (λ (z : ℕ). Goes d (writes_more z bytes n l) (rest_by (task.Serve s serving.Write) (reply.Number n))) (sym i)
-        (subst (λ (z : List ℕ). Goes d (writes_more a.0.descriptor z n l) (rest_by (task.Serve s serving.Write) (reply.Number n))) (sym j) goes))
+    let goes : Goes d (writes_more a.0.descriptor (take OCTETS_LIMIT a.0.unsent) n l) (rest_by (task.Serve s serving.Write) (reply.Number n)) = written-goes d l next s a.0 n k g a.1 few' in (
+      tt,
+      subst (λ (z : ℕ). Goes d (writes_more z bytes n l) (rest_by (task.Serve s serving.Write) (reply.Number n))) (sym i)
+          (subst (λ (z : List ℕ). Goes d (writes_more a.0.descriptor z n l) (rest_by (task.Serve s serving.Write) (reply.Number n))) (sym j) goes),
+    )
 write-after d l next fd bytes n k g few (task.Serve s serving.Read) a = absurd a
 write-after d l next fd bytes n k g few (task.Serve s serving.Lines) a = absurd a
 write-after d l next fd bytes n k g few (task.Serve s (serving.Order tag (fulfilling.Sleep delay))) a = absurd a

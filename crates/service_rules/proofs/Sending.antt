@@ -81,9 +81,13 @@ question-keeps us w q g gs p r again whole leads fine None e = (
         let c = both-true w.1 (is_fair w.0.0 q j) b in
         let f : GivenFine (heard w.0.0 q j) (answered w.0.1 q j) r.next gs None = subst (GivenFine (heard w.0.0 q j) (answered w.0.1 q j) r.next gs) t ((fine c.0).outside e j c.1) in
         all-go (heard w.0.0 q j) (answered w.0.1 q j) r.next f.0 f.1
-    each j (Some h) t = (whole j h t, leads.1 j h t, λ b.
-        let c = both-true w.1 (is_fair w.0.0 q j) b in
-        subst (GivenFine (heard w.0.0 q j) (answered w.0.1 q j) r.next gs) t ((fine c.0).outside e j c.1))
+    each j (Some h) t = (
+      whole j h t,
+      leads.1 j h t,
+      λ b.
+          let c = both-true w.1 (is_fair w.0.0 q j) b in
+          subst (GivenFine (heard w.0.0 q j) (answered w.0.1 q j) r.next gs) t ((fine c.0).outside e j c.1),
+    )
 question-keeps us w q g gs p r again whole leads fine (Some a) e = by leads.0
   where
     shown : List Item
@@ -125,7 +129,7 @@ kept = record { kept = step-keeps }
 abbrev first-known : Known
 first-known = ((nothing_known, nothing_sent), true)
 
-begins : (next : ℕ) → Fine nothing_known nothing_sent (begin next).innermost [] next
+pub begins : (next : ℕ) → Fine nothing_known nothing_sent (begin next).innermost [] next
 begins next = record {
   keeps = record { sorted = tt; distinct = λ k j c e h. cc; young = λ k h. refl; unsaid = λ k h. refl };
   stands = ((λ k c h. cc), tt);

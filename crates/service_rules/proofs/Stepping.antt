@@ -89,7 +89,7 @@ module _ (d : Knowledge) (l : Ledger) (p : Pool) where
 
   -- ---- the outside
 
-  own-none : (q : Ask) → IsOutside q → own d (record { ask = q; pool = p }) ≡ None
+  pub own-none : (q : Ask) → IsOutside q → own d (record { ask = q; pool = p }) ≡ None
   own-none ask.Quiet o = absurd o
   own-none (ask.Routine m) o = absurd o
   own-none (ask.Wait limit) o = absurd o

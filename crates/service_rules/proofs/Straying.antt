@@ -1,6 +1,5 @@
--- Where the last answer fits, each answer of the outside that is no act and accepts no kept connection's descriptor is fair.
-use Rattle.std.proofs.Common.{◌≡◌, ℕ, ◌&&◌, Bool, true, false, List, [], ◌∷◌, ◌++◌, length, Option, Some, None, refl, sym, ◌∙◌, ap, subst, append_assoc, ◌⊎◌, inl, inr}
-use Rattle.std.specs.Prelude.{nat_le}
+-- Where the last answer fits and no answer of the outside is an act, all are fair.
+use Rattle.std.proofs.Common.{◌≡◌, ℕ, ◌&&◌, Bool, true, false, List, [], ◌∷◌, ◌++◌, length, Option, Some, None, refl, sym, ◌∙◌, ap, subst, append_assoc, inl, inr}
 use Rattle.step_machine.specs.Machine.{Move, State, silent, given, leads, walk, is_stray}
 use Rattle.step_machine.specs.Machine.{Move as Do}
 use Rattle.step_machine.proofs.Ends.{Leads, rest-step}
@@ -10,28 +9,22 @@ use Rattle.machine_driver.specs.Watched.{Log, logged, logged_own}
 use Rattle.tree_specs.specs.declared.event.Event.{Event}
 use Rattle.tree_specs.specs.declared.frame.Frame.{Frame}
 use Rattle.tree_specs.specs.declared.frame.Frame.TheVariants as frame
-use Rattle.tree_specs.specs.declared.frame.CallFrame.TheVariants.{Asking, Doing}
-use Rattle.tree_specs.specs.declared.frame.OutsideFrame.TheVariants.{Reaching, Opening as OpeningFd, Hearing}
+use Rattle.tree_specs.specs.declared.frame.CallFrame.TheVariants.{Asking}
 use Rattle.tree_specs.specs.declared.frame.Answer.{Answer}
 use Rattle.tree_specs.specs.declared.question.Ask.{Ask}
-use Rattle.tree_specs.specs.declared.question.Ask.TheVariants as ask
 use Rattle.tree_specs.specs.declared.question.Input.{Input}
-use Rattle.tree_specs.specs.declared.question.Input.TheVariants as input
 use Rattle.tree_specs.specs.Rules.Items.{Item}
 use Rattle.tree_specs.specs.Rules.Items.Item.{Told, Asked}
 use Rattle.tree_specs.specs.Rules.Story.{turns}
 use Rattle.tree_specs.specs.Tree.Pool.{Pool}
-use Rattle.tree_specs.specs.Calls.Plans.{Plan, planned}
-use Rattle.tree_specs.specs.Calls.Plans.Plan.{Does, Frees, Unlinks, Empties, Asks, Turns, Works}
 use Rattle.tree_specs.specs.Invariants.Measure.{cost}
 use Rattle.tree_specs.specs.Invariants.Consistent.{IsConsistent, IsStacked}
 use Rattle.tree_specs.specs.Invariants.Sound.{Rests}
-use Rattle.tree_specs.specs.Machine.Table.{Step, table, step, taken, resume, plan_step}
+use Rattle.tree_specs.specs.Machine.Table.{Step, table, step, taken, resume}
 use Rattle.tree_specs.specs.Machine.View.{View, begin, strays_of}
 use Rattle.tree_specs.proofs.Turns.Falls.{Well, falls}
 use Rattle.tree_specs.proofs.Turns.Bound.{cost-turns}
 use Rattle.tree_specs.proofs.Rules.Rest.{most, well, whole-kept, no-end}
-use Rattle.tree_specs.proofs.Tree.Numbered.{by_test}
 use Rattle.tree_stories.specs.Sights.{Sight, Opening, seen_table}
 use Rattle.tree_stories.proofs.Stories.{at, IsWhole}
 use Rattle.tree_stories.proofs.Strays.{event-strays, question-strays, silent-strays}
@@ -40,9 +33,9 @@ use Rattle.service_rules.specs.Knowledge.{Knowledge}
 use Rattle.service_rules.specs.Service.{own, heard}
 use Rattle.service_rules.specs.Sent.{Ledger, answered, says, is_no_act}
 use Rattle.service_rules.specs.Fair.{with_fairness, is_fair}
-use Rattle.service_rules.specs.Fitting.{is_apart}
 use Rattle.service_rules.proofs.Fitting.{own-fits, own-asked}
-use Rattle.service_rules.proofs.Works.{IsOfTurn, LeadsWork, works}
+use Rattle.service_rules.proofs.Attending.{Attended, LeadsAttended}
+use Rattle.service_rules.proofs.AttendingSteps.{step-attended}
 use Rattle.service_rules.proofs.Recorded.{TakenSo, OwnSo, StepSo, KeptSo}
 
 -- an answer that isn't taken doesn't fit
@@ -54,73 +47,18 @@ stray-law v q f p i is h is-wait took =
     ∙ ap (λ (m : Move Frame Answer Pool Item). leads table (walk table n) m v.below (i ∷ is)) is-wait
     ∙ ap (λ (o : Option Frame). given (λ g p' left. walk table n g v.below p' left) q p is o) took)
 
--- ---- who asks
-
-abbrev pub AsksAs : Ask → Frame → Type 0
-AsksAs q g = (g ≡ frame.Outside (Reaching q)) ⊎ (g ≡ frame.Call (Asking q)) ⊎ IsOfTurn (Asked q)
-
-plan-no-wait : (a : Ask) (plan : Plan) (p : Pool) (q : Item) (g : Frame) (r : Pool) → plan_step a plan p ≡ Do.Wait q g r → ⊥
-plan-no-wait a (Does change None b) p q g r e = cc
-plan-no-wait a (Does change (Some notice) b) p q g r e = cc
-plan-no-wait a (Frees x) p q g r e = cc
-plan-no-wait a (Unlinks o x) p q g r e = cc
-plan-no-wait a (Empties x) p q g r e = cc
-plan-no-wait a (Asks b) p q g r e = cc
-plan-no-wait ask.Quiet Turns p q g r e = cc
-plan-no-wait _ Turns p q g r e = cc
-plan-no-wait a (Works change errand x) p q g r e = cc
-
-work-asks : (f : Frame) (p : Pool) (q : Ask) (g : Frame) (r : Pool) → LeadsWork p (step f p) → step f p ≡ Do.Wait (Asked q) g r → AsksAs q g
-work-asks f p q g r w e = let l : LeadsWork p (Do.Wait (Asked q) g r) = subst (LeadsWork p) e w in inr (inr l.0)
-
-asks-as : (f : Frame) (p : Pool) (q : Ask) (g : Frame) (r : Pool) → step f p ≡ Do.Wait (Asked q) g r → AsksAs q g
-asks-as (frame.Free f) p q g r e = work-asks (frame.Free f) p q g r (works (frame.Free f) p tt) e
-asks-as (frame.Turn f) p q g r e = work-asks (frame.Turn f) p q g r (works (frame.Turn f) p tt) e
-asks-as (frame.Request f) p q g r e = work-asks (frame.Request f) p q g r (works (frame.Request f) p tt) e
-asks-as (frame.Outside (Reaching a)) p q g r e = let i : a ≡ q = cc in let j : frame.Outside (Reaching a) ≡ g = cc in inl (sym j ∙ ap (λ (z : Ask). frame.Outside (Reaching z)) i)
-asks-as (frame.Outside (OpeningFd fd)) p q g r e = cc
-asks-as (frame.Outside (Hearing b)) p q g r e = cc
-asks-as (frame.Call (Asking a)) p q g r e = let i : a ≡ q = cc in let j : frame.Call (Asking a) ≡ g = cc in inr (inl (sym j ∙ ap (λ (z : Ask). frame.Call (Asking z)) i))
-asks-as (frame.Call (Doing a c)) p q g r e = absurd (plan-no-wait a (planned p c) p (Asked q) g r e)
-asks-as (frame.Call _) p q g r e = cc
-
--- bytes that are taken are no more than there were
-few-written : (fd : ℕ) (bytes : List ℕ) (n : ℕ) (g h : Frame) (r : Pool) → AsksAs (ask.Write fd bytes) g → taken g r (input.Wrote n) ≡ Some h → nat_le n (length bytes) ≡ true
-few-written fd bytes n g h r (inl is) t = by_test (nat_le 1 n && nat_le n (length bytes))
-    (λ b. second (nat_le 1 n) (nat_le n (length bytes)) b)
-    (λ b. let t' : taken (frame.Outside (Reaching (ask.Write fd bytes))) r (input.Wrote n) ≡ Some h = ap (λ (z : Frame). taken z r (input.Wrote n)) (sym is) ∙ t in let k : None ≡ Some h = rw b at t' in cc)
-  where
-    second : (a b : Bool) → (a && b) ≡ true → b ≡ true
-    second true b e = e
-    second false b e = cc
-few-written fd bytes n g h r (inr (inl is)) t = by_test (nat_le 1 n && nat_le n (length bytes))
-    (λ b. let t' : taken (frame.Call (Asking (ask.Write fd bytes))) r (input.Wrote n) ≡ Some h = ap (λ (z : Frame). taken z r (input.Wrote n)) (sym is) ∙ t in let k : None ≡ Some h = rw b at t' in cc)
-    (λ b. let t' : taken (frame.Call (Asking (ask.Write fd bytes))) r (input.Wrote n) ≡ Some h = ap (λ (z : Frame). taken z r (input.Wrote n)) (sym is) ∙ t in let k : None ≡ Some h = rw b at t' in cc)
-few-written fd bytes n g h r (inr (inr other)) t = absurd other
-
 both : (a b : Bool) → (a && b) ≡ true → (a ≡ true) × (b ≡ true)
 both true b e = (refl, e)
 both false b e = cc
 
-taken-fair : (d : Knowledge) (q : Ask) (i : Input) (g h : Frame) (r : Pool) → AsksAs q g → taken g r i ≡ Some h → is_no_act i ≡ true → is_apart d q i ≡ true → is_fair d q i ≡ true
-taken-fair d (ask.Write fd bytes) (input.Wrote n) g h r by t a b = few-written fd bytes n g h r by t
-taken-fair d (ask.Write fd bytes) _ g h r by t a b = a
-taken-fair d (ask.Accept fd) (input.Took new) g h r by t a b = b
-taken-fair d (ask.Accept fd) _ g h r by t a b = a
-taken-fair d ask.Quiet i g h r by t a b = a
-taken-fair d (ask.Routine m) i g h r by t a b = a
-taken-fair d ask.Clock i g h r by t a b = a
-taken-fair d (ask.Wait n) i g h r by t a b = a
-taken-fair d (ask.Read fd n) i g h r by t a b = a
-
 -- ---- each step keeps it
 
--- no act, and no kept connection's descriptor
+-- whether none was an act so far
 abbrev pub mildness : Log Bool ((Knowledge × Ledger) × Bool) Event Opening Input
 mildness = record {
   at_event = λ b w e. b;
   at_own = λ b w o. b;
-  at_answer = λ b w o i. b && (is_no_act i && is_apart w.0.0 o.ask i);
+  at_answer = λ b w o i. b && is_no_act i;
 }
 
 abbrev pub with_mildness : Driver (((Knowledge × Ledger) × Bool) × Bool) Sight Event Opening Input Input Item
@@ -134,7 +72,7 @@ abbrev Same : List Input → Frame → List Frame → Pool → Type 0
 Same ks f fs p = (more : List Input) → strays_of (begin 1) (ks ++ more) ≡ strays_of (at f fs p) more
 
 abbrev pub K : List Input → Known → Frame → List Frame → Pool → Type 0
-K ks w f fs p = IsWhole f fs p × AsksOutside f × Same ks f fs p × (w.1 ≡ true → w.0.1 ≡ true)
+K ks w f fs p = IsWhole f fs p × AsksOutside f × Same ks f fs p × (w.1 ≡ true → (w.0.1 ≡ true) × Attended w.0.0.0 w.0.0.1 f fs p)
 
 abbrev pub C : List Input → Known → Type 0
 C ks w = strays_of (begin 1) ks ≡ false → w.1 ≡ true → w.0.1 ≡ true
@@ -152,26 +90,30 @@ module _ (ks : List Input) (w : Known) (f : Frame) (fs : List Frame) (p : Pool) 
   on : (q : Ask) (g h : Frame) (r : Pool) (i : Input) → step f p ≡ Do.Wait (Asked q) g r → taken g r i ≡ Some h → Same (ks ++ i ∷ []) h fs r
   on q g h r i e t more = ap (strays_of (begin 1)) (append_assoc ks (i ∷ []) more) ∙ k.2 (i ∷ more) ∙ question-strays (at f fs p) (Asked q) g h r i more k.0 e t
 
-  question-keeps : (q : Ask) (g : Frame) (r : Pool) (again : Known → Type 0) → step f p ≡ Do.Wait (Asked q) g r → WholeAfter (Do.Wait (Asked q) g r) fs → LeadsOutside (Do.Wait (Asked q) g r) fs
+  abbrev Attends : Step → List Frame → Type 0
+  Attends m gs = w.1 ≡ true → (w.0.1 ≡ true) × LeadsAttended w.0.0.0 w.0.0.1 p m gs
+
+  question-keeps : (q : Ask) (g : Frame) (r : Pool) (again : Known → Type 0) → step f p ≡ Do.Wait (Asked q) g r → WholeAfter (Do.Wait (Asked q) g r) fs → LeadsOutside (Do.Wait (Asked q) g r) fs → Attends (Do.Wait (Asked q) g r) fs
       → (o : Option (Input × Knowledge)) → own w.0.0.0 (record { ask = q; pool = p }) ≡ o
       → let opening : Opening = record { ask = q; pool = p } in OwnSo seen_table with_mildness K C again ks w opening g fs r (logged_own w.1 (logged_own w.0.1 (logged_own (says w.0.0.1 w.0.0.0 o) o)))
-  question-keeps q g r again e whole leads None is = (λ s b. k.3 b, λ j. each j (taken g r j) refl)
+  question-keeps q g r again e whole leads attends None is = (λ s b. (k.3 b).0, λ j. each j (taken g r j) refl)
     where
       later : Input → Known
-      later j = (((heard w.0.0.0 q j, answered w.0.0.1 q j), w.0.1 && is_fair w.0.0.0 q j), w.1 && (is_no_act j && is_apart w.0.0.0 q j))
+      later j = (((heard w.0.0.0 q j, answered w.0.0.1 q j), w.0.1 && is_fair w.0.0.0 q j), w.1 && is_no_act j)
 
-      fair : (j : Input) (h : Frame) → taken g r j ≡ Some h → (w.1 && (is_no_act j && is_apart w.0.0.0 q j)) ≡ true → (w.0.1 && is_fair w.0.0.0 q j) ≡ true
-      fair j h t b =
-          let c = both w.1 (is_no_act j && is_apart w.0.0.0 q j) b in
-          let d = both (is_no_act j) (is_apart w.0.0.0 q j) c.1 in
-          let x : w.0.1 ≡ true = k.3 c.0 in
-          let y : is_fair w.0.0.0 q j ≡ true = taken-fair w.0.0.0 q j g h r (asks-as f p q g r e) t d.0 d.1 in
-          rw (x, y) refl
+      mild : (j : Input) (h : Frame) → taken g r j ≡ Some h → (w.1 && is_no_act j) ≡ true → ((w.0.1 && is_fair w.0.0.0 q j) ≡ true) × Attended (heard w.0.0.0 q j) (answered w.0.0.1 q j) h fs r
+      mild j h t b =
+          let c = both w.1 (is_no_act j) b in
+          let a = attends c.0 in
+          let o = a.1.outside is j h t c.1 in
+          let x : w.0.1 ≡ true = a.0 in
+          let y : is_fair w.0.0.0 q j ≡ true = o.0 in
+          (rw (x, y) refl, o.1)
 
       each : (j : Input) (o : Option Frame) → taken g r j ≡ o → TakenSo seen_table with_mildness K C (ks ++ j ∷ []) (later j) fs r o
       each j None t = λ s b. absurd (gone q g r j true e t s)
-      each j (Some h) t = (whole j h t, leads.1 j h t, on q g h r j e t, fair j h t)
-  question-keeps q g r again e whole leads (Some a) is = by leads.0
+      each j (Some h) t = (whole j h t, leads.1 j h t, on q g h r j e t, mild j h t)
+  question-keeps q g r again e whole leads attends (Some a) is = by leads.0
     where
       later : Known
       later = (((a.1, says w.0.0.1 w.0.0.0 (Some a)), w.0.1), w.1)
@@ -180,7 +122,7 @@ module _ (ks : List Input) (w : Known) (f : Frame) (fs : List Frame) (p : Pool) 
       fitting i =
           let y = own-fits w.0.0.0 (record { ask = q; pool = p }) q a is in
           let t : taken g r a.0 ≡ Some y.0 = ap (λ (z : Frame). taken z r a.0) i ∙ y.1 in
-          subst (TakenSo seen_table with_mildness K C (ks ++ a.0 ∷ []) later fs r) (sym t) (whole a.0 y.0 t, leads.1 a.0 y.0 t, on q g y.0 r a.0 e t, k.3)
+          subst (TakenSo seen_table with_mildness K C (ks ++ a.0 ∷ []) later fs r) (sym t) (whole a.0 y.0 t, leads.1 a.0 y.0 t, on q g y.0 r a.0 e t, λ b. let x = attends b in (x.0, x.1.itself a is y.0 t))
 
       by : IsAskedBy (Asked q) g → TakenSo seen_table with_mildness K C (ks ++ a.0 ∷ []) later fs r (taken g r a.0)
       by x = elim x [ inl i ↦ fitting i | inr other ↦ absurd (own-asked w.0.0.0 (record { ask = q; pool = p }) q a is other) ]
@@ -189,23 +131,23 @@ module _ (ks : List Input) (w : Known) (f : Frame) (fs : List Frame) (p : Pool) 
   silent-on m s e i more = k.2 more ∙ silent-strays (at f fs p) s more k.0 (ap (λ (z : Step). silent table z fs) e ∙ i)
 
   step-keeps : StepSo seen_table with_mildness K C (λ v. K ks v f fs p) ks w (seen_move p (step f p)) fs
-  step-keeps = each (step f p) refl (whole-kept (at f fs p) 1 k.0) (outside-kept f fs p k.0 k.1)
+  step-keeps = each (step f p) refl (whole-kept (at f fs p) 1 k.0) (outside-kept f fs p k.0 k.1) (λ b. let x = k.3 b in (x.0, step-attended w.0.0.0 w.0.0.1 p f fs k.0 k.1 x.1))
     where
-      done : (a : Answer) (q : Pool) (gs : List Frame) → step f p ≡ Do.Done a q → fs ≡ gs → WholeAfter (Do.Done a q) gs → LeadsOutside (Do.Done a q) gs → StepSo seen_table with_mildness K C (λ v. K ks v f fs p) ks w (Do.Done a q) gs
-      done a q [] e d l o =
+      done : (a : Answer) (q : Pool) (gs : List Frame) → step f p ≡ Do.Done a q → fs ≡ gs → WholeAfter (Do.Done a q) gs → LeadsOutside (Do.Done a q) gs → Attends (Do.Done a q) gs → StepSo seen_table with_mildness K C (λ v. K ks v f fs p) ks w (Do.Done a q) gs
+      done a q [] e d l o h =
           let b : IsStacked f [] = subst (λ (z : List Frame). IsStacked f z) d k.0.seated in
           let r : Rests f [] p = subst (λ (z : List Frame). Rests f z p) d k.0.sound.rests in
           absurd (no-end f p q a b r e)
-      done a q (g ∷ gs) e d l o = (l, o, silent-on (Do.Done a q) (record { now = resume g a; below = gs; pool = q }) e (ap (silent table (Do.Done a q)) d), k.3)
+      done a q (g ∷ gs) e d l o h = (l, o, silent-on (Do.Done a q) (record { now = resume g a; below = gs; pool = q }) e (ap (silent table (Do.Done a q)) d), h)
 
-      each : (m : Step) → step f p ≡ m → WholeAfter m fs → LeadsOutside m fs → StepSo seen_table with_mildness K C (λ v. K ks v f fs p) ks w (seen_move p m) fs
-      each (Do.Done a q) e l o = done a q fs e refl l o
-      each (Do.Go g q) e l o = (l, o, silent-on (Do.Go g q) (record { now = g; below = fs; pool = q }) e refl, k.3)
-      each (Do.Call h g q) e l o = (l, o, silent-on (Do.Call h g q) (record { now = h; below = g ∷ fs; pool = q }) e refl, k.3)
-      each (Do.Emit (Told t) g q) e l o = (l, o.1, (λ more. k.2 more ∙ event-strays (at f fs p) (Told t) g q more k.0 e), k.3)
-      each (Do.Emit (Asked t) g q) e l o = absurd o.0
-      each (Do.Wait (Told t) g q) e l o = absurd o.0
-      each (Do.Wait (Asked q) g r) e l o = question-keeps q g r (λ v. K ks v f fs p) e l o (own w.0.0.0 (record { ask = q; pool = p })) refl
+      each : (m : Step) → step f p ≡ m → WholeAfter m fs → LeadsOutside m fs → Attends m fs → StepSo seen_table with_mildness K C (λ v. K ks v f fs p) ks w (seen_move p m) fs
+      each (Do.Done a q) e l o h = done a q fs e refl l o h
+      each (Do.Go g q) e l o h = (l, o, silent-on (Do.Go g q) (record { now = g; below = fs; pool = q }) e refl, h)
+      each (Do.Call i g q) e l o h = (l, o, silent-on (Do.Call i g q) (record { now = i; below = g ∷ fs; pool = q }) e refl, h)
+      each (Do.Emit (Told t) g q) e l o h = (l, o.1, (λ more. k.2 more ∙ event-strays (at f fs p) (Told t) g q more k.0 e), h)
+      each (Do.Emit (Asked t) g q) e l o h = absurd o.0
+      each (Do.Wait (Told t) g q) e l o h = absurd o.0
+      each (Do.Wait (Asked q) g r) e l o h = question-keeps q g r (λ v. K ks v f fs p) e l o h (own w.0.0.0 (record { ask = q; pool = p })) refl
 
 pub mild-kept : KeptSo seen_table with_mildness K C
 mild-kept ks w f fs p k = step-keeps ks w f fs p k

@@ -48,8 +48,8 @@ pub fn bytes_go_out_where_answers_are_fair()
     ensures { FairBytesGoOut }
 {}
 
-/// Where the answers of the outside fit and none of them is an act, nor accepts the descriptor of a kept connection, bytes
-/// go out as they were said.
+/// Where the answers of the outside fit and none of them is an act, bytes go out on each connection as they were said: what
+/// its descriptor has taken, and what is unsent, are the lines that were said to its session.
 pub fn bytes_go_out_where_answers_fit()
     ensures { FittingBytesGoOut }
 {}

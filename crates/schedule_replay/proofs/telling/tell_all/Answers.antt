@@ -11,6 +11,6 @@ returns-in_err-write-in-Some g c =
 
 pub returns-in_err-told : goal.returns-in_err-told
 returns-in_err-told g c =
-    let p = err_from_is_err_and c.from_residual-in_err-told.result c.from_residual-in_err-told.ensures.1 in
+    let p = err_from_is_err_and c.from_residual.result c.from_residual.ensures.1 in
     let so = told-nothing (g.M.Machine.standing c.args.machine.now) (g.M.Machine.standing c.tells.machine) (g.M.Machine.standing c.next.new.self) c.args.text.now.items c.tells.text.items c.tells.invariant c.in_err-told.ensures in
     rw p.1 (told-broken (g.M.Machine.standing c.args.machine.now) (g.M.Machine.standing c.next.new.self) c.args.text.now.items c.tells.text.items so)

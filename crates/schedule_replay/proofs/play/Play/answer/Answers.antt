@@ -1,4 +1,4 @@
-use Rattle.std.proofs.Common.{◌≡◌, ◌∙◌, Err, Some, ap, length, arith}
+use Rattle.std.proofs.Common.{◌≡◌, ◌∙◌, Err, ap, length, arith}
 use Rattle.std.proofs.lemmas.Result.{err_from_is_err_and}
 use Rattle.tree_specs.specs.declared.schedule.Reason.TheVariants.{NotAsked, Token}
 use Rattle.schedule_replay.specs.Questions.{answered_of}

@@ -1,4 +1,3 @@
-use Rattle.std.proofs.Common.{IsTrue}
 use Rattle.std.proofs.lemmas.Result.{err_from_is_err_and}
 use Rattle.schedule_replay.proofs.PlayLaws.{refuses-cut, ends-play, breaks-end}
 use Rattle.schedule_replay.proofs.play.Play.finish.Goals as goal
