@@ -1,9 +1,11 @@
 ghost use Rattle.std.specs.Prelude.{◌≤◌, ◌<◌, length, IfOk};
 
 use super::*;
+use std::alloc::Global;
 use std::fmt::InlineText;
 use std::io;
 use std::io::{ErrorKind, Read, Write};
+use std::process::Abort;
 use std::test::Fail;
 use tree_specs::{Act, Input, Memory, Moment, Obj, Want, Wants, What};
 
@@ -175,9 +177,9 @@ fn push_some(rt: &HostRuntime, answers: &mut Vec<Input>) -> Result<(), Fail> {
     Ok(())
 }
 
-fn gives_in_order(rt: &HostRuntime, link: &mut MemLink) -> Result<(), Fail> {
+fn gives_in_order(rt: &impl Abort, alloc: Global, link: &mut MemLink) -> Result<(), Fail> {
     assert_eq!(rt; link.listen("/tmp/link")?, Done::Done);
-    let mut found = Vec::new(rt.alloc());
+    let mut found = Vec::new(alloc);
     assert_eq!(rt; link.wait(&LISTENER, 9, &mut found)?, Done::Done);
     assert_eq!(rt; found.as_slice(), LISTENER.as_slice());
     assert_eq!(rt; link.accept(0)?, Accepted::Took(1));
@@ -196,7 +198,7 @@ fn a_link_in_memory_gives_its_answers_in_order(rt: HostRuntime) -> Result<(), Fa
     let mut answers = Vec::new(rt.alloc());
     push_some(&rt, &mut answers)?;
     let mut link = MemLink::new(rt.alloc(), answers, Vec::new(rt.alloc()), 16, 16)?;
-    gives_in_order(&rt, &mut link)
+    gives_in_order(&rt, rt.alloc(), &mut link)
 }
 
 fn push_a_wait_and_a_write(rt: &HostRuntime, answers: &mut Vec<Input>) -> Result<(), Fail> {
@@ -205,8 +207,8 @@ fn push_a_wait_and_a_write(rt: &HostRuntime, answers: &mut Vec<Input>) -> Result
     Ok(())
 }
 
-fn gives_what_fits(rt: &HostRuntime, link: &mut MemLink) -> Result<(), Fail> {
-    let mut found = Vec::new(rt.alloc());
+fn gives_what_fits(rt: &impl Abort, alloc: Global, link: &mut MemLink) -> Result<(), Fail> {
+    let mut found = Vec::new(alloc);
     assert_eq!(rt;
         link.wait(&[Want { fd: 5, flags: 1 }], 9, &mut found)?,
         Done::Done
@@ -225,12 +227,16 @@ fn an_answer_that_does_not_fit_stays_the_next_one(rt: HostRuntime) -> Result<(),
     let mut answers = Vec::new(rt.alloc());
     push_a_wait_and_a_write(&rt, &mut answers)?;
     let mut link = MemLink::new(rt.alloc(), answers, Vec::new(rt.alloc()), 16, 16)?;
-    gives_what_fits(&rt, &mut link)
+    gives_what_fits(&rt, rt.alloc(), &mut link)
 }
 
-fn fails_at_its_second_call(rt: &HostRuntime, link: &mut MemLink) -> Result<(), Fail> {
+fn fails_at_its_second_call(
+    rt: &impl Abort,
+    alloc: Global,
+    link: &mut MemLink,
+) -> Result<(), Fail> {
     assert_eq!(rt; link.listen("/tmp/link")?, Done::Done);
-    let mut ready = Vec::new(rt.alloc());
+    let mut ready = Vec::new(alloc);
     assert_eq!(rt; link.wait(&[], 9, &mut ready)?, Done::Failed);
     assert_eq!(rt; link.wait(&[], 9, &mut ready)?, Done::Done);
     Ok(())
@@ -240,10 +246,10 @@ fn fails_at_its_second_call(rt: &HostRuntime, link: &mut MemLink) -> Result<(), 
 fn a_link_in_memory_fails_when_told(rt: HostRuntime) -> Result<(), Fail> {
     let fails = [2u64].to_vec(rt.alloc())?;
     let mut link = MemLink::new(rt.alloc(), Vec::new(rt.alloc()), fails, 4, 0)?;
-    fails_at_its_second_call(&rt, &mut link)
+    fails_at_its_second_call(&rt, rt.alloc(), &mut link)
 }
 
-fn returns_in_order(rt: &HostRuntime, routines: &mut MemRoutines) -> Result<(), Fail> {
+fn returns_in_order(rt: &impl Abort, routines: &mut MemRoutines) -> Result<(), Fail> {
     for expected in [7, 0, 0] {
         let act = routines.answer(&moment())?;
         assert!(rt; matches!(act, Act::Ret(value) if value == expected));
