@@ -8,10 +8,8 @@ ghost use Rattle.service_rules.specs.Stations.{outside_question as outside_asked
 ghost use Rattle.line_service.specs.Steps.{answerer_of};
 
 use host_core::Host;
+use service_rules::FIRST_OF_OUTSIDE;
 use tree_specs::Ask;
-
-/// The routines from this one on are the outside's, those below it the service's own.
-const FIRST_OF_OUTSIDE: u32 = 16;
 
 /// Who answers a question.
 #[derive(Clone, Copy)]

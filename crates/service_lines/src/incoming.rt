@@ -6,12 +6,10 @@ ghost use Rattle.std.specs.Prelude.{◌≡◌, ◌++◌, ◌≤◌, ◌<◌, [],
 
 use bytes::BytesMut;
 use line_pieces::line_end;
+use service_rules::LENGTH_LIMIT;
 use std::alloc::Global;
 use std::marker::Model;
 use tree_specs::Memory;
-
-/// A line of a connection has at most so many bytes, without its LF.
-const LENGTH_LIMIT: usize = 1_024;
 
 /// What stands in front of the bytes that came.
 #[derive(Clone, Copy)]

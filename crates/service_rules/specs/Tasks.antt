@@ -28,6 +28,7 @@ use Rattle.service_rules.specs.declared.task.Triggering.{Triggering}
 use Rattle.service_rules.specs.declared.task.Triggering.TheVariants as triggering
 use Rattle.service_rules.specs.Answers.{replied, replied_owner}
 use Rattle.service_rules.specs.Knowledge.{Connection, service}
+use Rattle.service_rules.specs.declared.bounds.TheConstants.{READ_LIMIT, UNSENT_LIMIT}
 
 abbrev pub object : ℕ → Obj
 object n = record { 0 = n }
@@ -114,7 +115,7 @@ after_fulfilling at r s = worked_at at r
 
 -- a connection with so many unsent bytes is not read from
 abbrev pub unsent_limit : ℕ
-unsent_limit = 65536
+unsent_limit = UNSENT_LIMIT
 
 abbrev pub reads_on : List ℕ → ℕ
 reads_on unsent = elim (nat_lt (length unsent) unsent_limit) [ true ↦ 1 | false ↦ 0 ]
@@ -149,7 +150,7 @@ after_reading c = unless_empty c.unsent (after_writing c)
 
 -- the most bytes that one read takes
 abbrev pub read_limit : ℕ
-read_limit = 4096
+read_limit = READ_LIMIT
 
 -- as many bytes as one write takes
 abbrev pub write_call : ℕ → List ℕ → Option Call
