@@ -22,14 +22,12 @@ use Rattle.outside.specs.LinkCalls.{LinkCall}
 use Rattle.outside.specs.LinkCalls.LinkCall.{Listen}
 use Rattle.outside.specs.Tellings.{Tells}
 use Rattle.outside.proofs.TellingLaws.{tells_same, tells_then}
-use Rattle.serving.specs.declared.stop.Stop.{Stop}
-use Rattle.serving.specs.declared.stop.Stop.TheVariants as stops
 use Rattle.serving.specs.Exchanges.{Exchange, exchanges, closing, link_answer, clock_answer, routine_answer, link_part, clock_part, routine_part}
 use Rattle.serving.specs.Exchanges.Exchange.{Answered, Closed}
-use Rattle.serving.specs.Machines.{Course, TellsNext, Asks, sight, OpenAfter, OpenTaken}
-use Rattle.serving.specs.Serving.{Scene, Serves, Shows, Agrees, OpenClosed, OpensBy, IsServed, record_header, FailsWaiting, StopsWaiting, scene}
+use Rattle.serving.specs.Machines.{Course, TellsNext, Asks, SameCourse, OpenAfter, OpenTaken}
+use Rattle.serving.specs.Serving.{Scene, Serves, Shows, Agrees, OpenClosed, OpensBy, IsServed, record_header}
 
-flat-both : {A B : Type 0} (f : A → List B) (xs ys : List A) → flat_map f (xs ++ ys) ≡ flat_map f xs ++ flat_map f ys
+pub flat-both : {A B : Type 0} (f : A → List B) (xs ys : List A) → flat_map f (xs ++ ys) ≡ flat_map f xs ++ flat_map f ys
 flat-both f [] ys = refl
 flat-both f (x ∷ xs) ys = rw (flat-both f xs ys) (sym (append_assoc (f x) (flat_map f xs) (flat_map f ys)))
 
@@ -53,7 +51,7 @@ shows_more a b c k l m e s n t = record {
 }
 
 -- the same story goes on
-pub shows_same : (a b c : Course) (k l : Option (List LinkCall)) → Shows a b k l → sight b c → Shows a c k l
+pub shows_same : (a b c : Course) (k l : Option (List LinkCall)) → Shows a b k l → SameCourse b c → Shows a c k l
 shows_same a b c k l s n = record { done = s.done; follows = λ is. rw (n is) (s.follows is); link = s.link; clock = s.clock; routines = s.routines }
 
 -- ---- answers
@@ -181,32 +179,3 @@ served_whole path answers before begun after question wanted e l c r o s a =
       routines = rw over (subst (λ (t : Option (List (Moment × Act))). Tells t after.routines (flat_map routine_part s.done)) r s.routines);
       out = Appends-trans before.out begun.out after.out record_header (flat_map input_text s.given) o s.out;
     }
-
--- a wait has failed at once
-pub stops_at_once : (before : Scene) (q : Ask) (wanted : List Want) (link : Option (List LinkCall)) (clock : Option (List ℕ)) (routines : Option (List (Moment × Act))) (out : Option (List ℕ)) →
-    FailsWaiting q wanted before.link link → clock ≡ before.clock → routines ≡ before.routines → out ≡ before.out → StopsWaiting 0 before link clock routines out
-stops_at_once before (ask.Wait limit) wanted link clock routines out f c r o = record {
-  course = before.course;
-  told = before.link;
-  serves = rw (c, r, o) (serves_nothing before);
-  limit = limit;
-  wanted = wanted;
-  failed = f;
-}
-stops_at_once before q wanted link clock routines out f c r o = absurd f
-
--- a wait has failed later
-pub stops_later : (m n : ℕ) (a b : Scene) (link : Option (List LinkCall)) (clock : Option (List ℕ)) (routines : Option (List (Moment × Act))) (out : Option (List ℕ)) →
-    Serves m a b → StopsWaiting n b link clock routines out → StopsWaiting (m + n) a link clock routines out
-stops_later m n a b link clock routines out s w = record {
-  course = w.course;
-  told = w.told;
-  serves = serves_then m n a b (scene w.course w.told clock routines out) s w.serves;
-  limit = w.limit;
-  wanted = w.wanted;
-  failed = w.failed;
-}
-
--- an error that is passed on is the same
-pub same_stop : {T U : Type 0} (r : Result T Stop) (e f : Stop) → r ≡ Err e → e ≡ f → r ≡ Err stops.Link → ◌≡◌ {A = Result U Stop} (Err f) (Err stops.Link)
-same_stop {T = T} r e f h k l = let g : ◌≡◌ {A = Result T Stop} (Err e) (Err stops.Link) = sym h ∙ l in let same : e ≡ stops.Link = cc in rw (sym k, same) refl

@@ -20,16 +20,19 @@ pub record WatchedItem : Type 0 where
   pub item : Item
   pub wanted : List Want
 
+-- what the outside has to do with an item
 pub data Exchange : Type 0 where
   -- a question, with what was watched then, and its answer
   Answered : Ask → List Want → Input → Exchange
   -- this descriptor was closed
   Closed : ℕ → Exchange
 
+-- what an event closes
 abbrev pub closing : Event → List Exchange
 closing (events.Closed fd) = Closed fd ∷ []
 closing e = []
 
+-- an item with the answers that still come, and the exchanges after it; a question without an answer is the end
 abbrev pub exchange : Item → List Want → List Input → (List Input → List Exchange) → List Exchange
 exchange (Told e) wanted is later = closing e ++ later is
 exchange (Asked q) wanted [] later = []
@@ -42,6 +45,7 @@ exchanges (s ∷ ss) is = exchange s.item s.wanted is (λ more. exchanges ss mor
 
 -- ---- what each end is asked
 
+-- the calls of one question with its answer
 abbrev pub link_answer : Ask → List Want → Input → List LinkCall
 link_answer (ask.Wait limit) wanted (input.Ready ready) = Wait wanted limit (Some ready) ∷ []
 link_answer (ask.Accept fd) wanted i = Accept fd i ∷ []
@@ -57,6 +61,7 @@ abbrev pub routine_answer : Ask → Input → List (Moment × Act)
 routine_answer (ask.Routine m) (input.Act act) = (m, act) ∷ []
 routine_answer q i = []
 
+-- the calls of one exchange
 abbrev pub link_part : Exchange → List LinkCall
 link_part (Answered q wanted i) = link_answer q wanted i
 link_part (Closed fd) = Close fd ∷ []
@@ -71,6 +76,7 @@ routine_part (Closed fd) = []
 
 -- ---- what a whole service prescribes
 
+-- the calls of each end
 pub record Served : Type 0 where
   pub link : List LinkCall
   pub clock : List ℕ

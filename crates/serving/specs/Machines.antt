@@ -19,10 +19,11 @@ use Rattle.serving.specs.Exchanges.{WatchedItem}
 abbrev pub Course : Type 0
 Course = List Input → List WatchedItem
 
-abbrev pub sight : Course → Course → Type 0
-sight before after = (is : List Input) → after is ≡ before is
+-- the same story is still to come
+abbrev pub SameCourse : Course → Course → Type 0
+SameCourse before after = (is : List Input) → after is ≡ before is
 
--- what the outside may be asked
+-- whether the outside may be asked this: it is never quiet, and a read has a length
 abbrev pub is_sound_ask : Ask → Bool
 is_sound_ask ask.Quiet = false
 is_sound_ask (ask.Read fd most) = nat_le 1 most && nat_le most OCTETS_LIMIT
@@ -38,10 +39,11 @@ pub record Asks (question : Option Ask) (wanted : List Want) (course : Course) :
   pub open_now : IsSome question
   pub last : (q : Ask) → question ≡ Some q → course [] ≡ record { item = Asked q; wanted = wanted } ∷ []
 
+-- what a machine tells next: an event, that a question is open, or that memory ran out
 abbrev pub Nexts : Result (Option Event) Memory → Option Ask → List Want → Course → Course → Type 0
 Nexts (Ok (Some e)) question wanted before after = TellsNext e before after
-Nexts (Ok None) question wanted before after = Asks question wanted after × sight before after
-Nexts (Err e) question wanted before after = sight before after
+Nexts (Ok None) question wanted before after = Asks question wanted after × SameCourse before after
+Nexts (Err e) question wanted before after = SameCourse before after
 
 -- what is open after an event was open before, and isn't what was closed
 abbrev pub OpenAfter : Result (Option Event) Memory → (ℕ → Bool) → (ℕ → Bool) → Type 0
@@ -50,7 +52,8 @@ OpenAfter r before after = (fd : ℕ) → after fd ≡ true → before fd ≡ tr
 
 -- the answer is taken, and the story goes on after its question
 pub record Takes (question : Option Ask) (wanted : List Want) (i : Input) (before after : Course) : Type 0 where
-  pub goes_on : (q : Ask) → question ≡ Some q → (is : List Input) → before (i ∷ is) ≡ record { item = Asked q; wanted = wanted } ∷ after is
+  pub goes_on : (q : Ask) → question ≡ Some q → (is : List Input) →
+      before (i ∷ is) ≡ record { item = Asked q; wanted = wanted } ∷ after is
 
 -- what is open after an answer was open before, or was accepted
 abbrev pub OpenTaken : Input → (ℕ → Bool) → (ℕ → Bool) → Type 0

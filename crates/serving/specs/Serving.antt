@@ -5,7 +5,6 @@ use Rattle.tree_specs.specs.declared.event.Event.{Event}
 use Rattle.tree_specs.specs.declared.event.Event.TheVariants as events
 use Rattle.tree_specs.specs.declared.moment.Moment.{Moment}
 use Rattle.tree_specs.specs.declared.question.Ask.{Ask}
-use Rattle.tree_specs.specs.declared.question.Ask.TheVariants as ask
 use Rattle.tree_specs.specs.declared.question.Act.{Act}
 use Rattle.tree_specs.specs.declared.question.Input.{Input}
 use Rattle.tree_specs.specs.declared.question.Input.TheVariants as input
@@ -14,7 +13,6 @@ use Rattle.tree_specs.specs.Texts.Schedule.{misfit, service_header}
 use Rattle.tree_specs.specs.Texts.Text.{input_text, newline}
 use Rattle.tree_specs.specs.Words.Ranges.{is_sound}
 use Rattle.outside.specs.LinkCalls.{LinkCall}
-use Rattle.outside.specs.LinkCalls.LinkCall.{Wait}
 use Rattle.outside.specs.Descriptors.{SameOpen, Opens, Closes}
 use Rattle.outside.specs.Tellings.{Tells}
 use Rattle.serving.specs.Exchanges.{Exchange, exchanges, link_part, clock_part, routine_part, served}
@@ -68,11 +66,6 @@ pub record Shows (before after : Course) (told all : Option (List LinkCall)) : T
 abbrev pub Agrees : (ℕ → Bool) → (ℕ → Bool) → Type 0
 Agrees machine link = (fd : ℕ) → 1 ≤ fd → machine fd ≡ true → link fd ≡ true
 
--- a wait has failed, and the link tells that
-abbrev pub FailsWaiting : Ask → List Want → Option (List LinkCall) → Option (List LinkCall) → Type 0
-FailsWaiting (ask.Wait limit) wanted told all = Tells told all (Wait wanted limit None ∷ [])
-FailsWaiting q wanted told all = ⊥
-
 -- what is open after an event
 abbrev pub OpenClosed : Event → (ℕ → Bool) → (ℕ → Bool) → Type 0
 OpenClosed (events.Closed fd) before after = Closes before after fd
@@ -92,12 +85,3 @@ pub record IsServed (path : List ℕ) (answers : ℕ) (before after : Scene) : T
   pub clock : Tells before.clock after.clock (served path (exchanges (before.course given) given)).clock
   pub routines : Tells before.routines after.routines (served path (exchanges (before.course given) given)).routines
   pub out : Appends before.out after.out (record_header ++ flat_map input_text given)
-
--- So many answers were given, and then a wait has failed, which the link tells.
-pub record StopsWaiting (count : ℕ) (before : Scene) (link : Option (List LinkCall)) (clock : Option (List ℕ)) (routines : Option (List (Moment × Act))) (out : Option (List ℕ)) : Type 0 where
-  pub course : Course
-  pub told : Option (List LinkCall)
-  pub serves : Serves count before (scene course told clock routines out)
-  pub limit : ℕ
-  pub wanted : List Want
-  pub failed : Tells told link (Wait wanted limit None ∷ [])

@@ -1,14 +1,16 @@
-//! The answer of the outside to a question.
-ghost use Rattle.std.specs.Prelude.{◌≡◌, ℕ, Bool, [], ◌∷◌, length, Some, None, Err, IsTrue, IfOk, OnErr};
+//! The answer of the outside to the open question.
+ghost use Rattle.std.specs.Prelude.{◌≡◌, ℕ, Bool, List, [], ◌∷◌, length, Err, IsTrue, IfOk, IfErr, OnErr};
 ghost use Rattle.tree_specs.specs.declared.question.Ask.TheVariants as ask;
+ghost use Rattle.tree_specs.specs.declared.wants.Want.{Want as WantData};
 ghost use Rattle.tree_specs.specs.Words.Octets.{is_octets};
 ghost use Rattle.tree_specs.specs.Words.Ranges.{is_length};
 ghost use Rattle.outside.specs.Causes.{Counts};
 ghost use Rattle.outside.specs.Descriptors.{SameOpen};
 ghost use Rattle.outside.specs.Tellings.{Tells};
-ghost use Rattle.outside.specs.LinkCalls.LinkCall.{Wait, Accept, Read, Write};
+ghost use Rattle.outside.specs.LinkCalls.LinkCall.{Accept, Read, Write};
 ghost use Rattle.serving.specs.Exchanges.{link_answer, clock_answer, routine_answer};
-ghost use Rattle.serving.specs.Serving.{Suits, OpensBy, FailsWaiting};
+ghost use Rattle.serving.specs.Serving.{Suits, OpensBy};
+ghost use Rattle.serving.specs.Stopping.{FailsToAnswer};
 ghost use Rattle.serving.specs.Machines.{is_sound_ask};
 
 use crate::machine::Machine;
@@ -25,13 +27,13 @@ fn wait<M: Machine, L: Link>(
     limit: u64,
 ) -> Result<Input, Stop>
     ensures suits { IfOk result (λ i. Suits (ask.Wait limit) i) }
-    ensures told { IfOk result (λ i. Tells (L.told link.old) (L.told link.new) (link_answer (ask.Wait limit) (M.wanted machine.now) i)) }
-    ensures failed { result ≡ Err Stop.Link → Tells (L.told link.old) (L.told link.new) (Wait (M.wanted machine.now) limit None ∷ []) }
-    ensures memory { result ≡ Err Stop.Memory → Tells (L.told link.old) (L.told link.new) [] }
+    ensures told { IfOk result (λ i.
+        Tells (L.told link.old) (L.told link.new) (link_answer (ask.Wait limit) (M.wanted machine.now) i)) }
+    ensures fails { IfErr result (λ why.
+        FailsToAnswer why (ask.Wait limit) (M.wanted machine.now) (L.told link.old) (L.told link.new)) }
     ensures cause { Counts (L.faults link.old) (L.faults link.new) (result ≡ Err Stop.Link) }
     ensures open { SameOpen (L.is_open link.old) (L.is_open link.new) }
     ensures opens { IfOk result (λ i. OpensBy (L.is_open link.old) (L.is_open link.new) i) }
-    ensures no_write { result ≡ Err Stop.Write → ⊥ }
 {
     let mut wants = Vec::new(alloc);
     machine.wants(&mut wants)?;
@@ -50,8 +52,9 @@ fn wait<M: Machine, L: Link>(
 fn accept<L: Link>(link: &mut L, fd: u32) -> Result<Input, Stop>
     ensures suits { IfOk result (λ i. Suits (ask.Accept fd) i) }
     ensures told { IfOk result (λ i. Tells (L.told link.old) (L.told link.new) (Accept fd i ∷ [])) }
-    ensures memory { OnErr result (Tells (L.told link.old) (L.told link.new) []) }
-    ensures err { OnErr result (result ≡ Err Stop.Memory) }
+    ensures fails { (wanted : List WantData) → IfErr result (λ why.
+        FailsToAnswer why (ask.Accept fd) wanted (L.told link.old) (L.told link.new)) }
+    ensures memory { OnErr result (result ≡ Err Stop.Memory) }
     ensures faults { L.faults link.new ≡ L.faults link.old }
     ensures opens { IfOk result (λ i. OpensBy (L.is_open link.old) (L.is_open link.new) i) }
 {
@@ -78,8 +81,11 @@ fn octets(alloc: Global, bytes: &[u8]) -> Result<Octets, Stop>
 fn read<L: Link>(alloc: Global, link: &mut L, fd: u32, buf: &mut [u8]) -> Result<Input, Stop>
     requires { IsTrue (is_length (length buf.old)) }
     ensures suits { IfOk result (λ i. Suits (ask.Read fd (length buf.old)) i) }
-    ensures told { IfOk result (λ i. Tells (L.told link.old) (L.told link.new) (Read fd (length buf.old) i ∷ [])) }
-    ensures err { OnErr result (result ≡ Err Stop.Memory) }
+    ensures told { IfOk result (λ i.
+        Tells (L.told link.old) (L.told link.new) (Read fd (length buf.old) i ∷ [])) }
+    ensures fails { (wanted : List WantData) → IfErr result (λ why.
+        FailsToAnswer why (ask.Read fd (length buf.old)) wanted (L.told link.old) (L.told link.new)) }
+    ensures memory { OnErr result (result ≡ Err Stop.Memory) }
     ensures faults { L.faults link.new ≡ L.faults link.old }
     ensures opens { IfOk result (λ i. OpensBy (L.is_open link.old) (L.is_open link.new) i) }
 {
@@ -99,7 +105,9 @@ fn read_most<L: Link>(alloc: Global, link: &mut L, fd: u32, most: u32) -> Result
     requires { IsTrue (is_length most) }
     ensures suits { IfOk result (λ i. Suits (ask.Read fd most) i) }
     ensures told { IfOk result (λ i. Tells (L.told link.old) (L.told link.new) (Read fd most i ∷ [])) }
-    ensures err { OnErr result (result ≡ Err Stop.Memory) }
+    ensures fails { (wanted : List WantData) → IfErr result (λ why.
+        FailsToAnswer why (ask.Read fd most) wanted (L.told link.old) (L.told link.new)) }
+    ensures memory { OnErr result (result ≡ Err Stop.Memory) }
     ensures faults { L.faults link.new ≡ L.faults link.old }
     ensures opens { IfOk result (λ i. OpensBy (L.is_open link.old) (L.is_open link.new) i) }
 {
@@ -128,9 +136,11 @@ fn write<L: Link>(link: &mut L, fd: u32, bytes: &[u8]) -> Input
 /// What the routine of this moment does.
 fn act<R: Routines>(routines: &mut R, moment: &Moment) -> Result<Input, Stop>
     ensures suits { IfOk result (λ i. Suits (ask.Routine moment.entry.now) i) }
-    ensures told { IfOk result (λ i. Tells (R.told routines.old) (R.told routines.new) (routine_answer (ask.Routine moment.entry.now) i)) }
+    ensures told { IfOk result (λ i.
+        Tells (R.told routines.old) (R.told routines.new) (routine_answer (ask.Routine moment.entry.now) i)) }
     ensures opens { (before : ℕ → Bool) → IfOk result (λ i. OpensBy before before i) }
-    ensures err { OnErr result (result ≡ Err Stop.Memory) }
+    ensures untold { OnErr result (Tells (R.told routines.old) (R.told routines.new) []) }
+    ensures memory { OnErr result (result ≡ Err Stop.Memory) }
 {
     match routines.answer(moment) {
         Ok(act) => Ok(Input::Act(act)),
@@ -149,15 +159,18 @@ pub(crate) fn answer<M: Machine, L: Link, C: Clock, R: Routines>(
 ) -> Result<Input, Stop>
     requires { IsTrue (is_sound_ask asked.now) }
     ensures suits { IfOk result (λ i. Suits asked.now i) }
-    ensures link { IfOk result (λ i. Tells (L.told link.old) (L.told link.new) (link_answer asked.now (M.wanted machine.now) i)) }
-    ensures clock { IfOk result (λ i. Tells (C.told clock.old) (C.told clock.new) (clock_answer asked.now i)) }
-    ensures routines { IfOk result (λ i. Tells (R.told routines.old) (R.told routines.new) (routine_answer asked.now i)) }
+    ensures link { IfOk result (λ i.
+        Tells (L.told link.old) (L.told link.new) (link_answer asked.now (M.wanted machine.now) i)) }
+    ensures clock { IfOk result (λ i.
+        Tells (C.told clock.old) (C.told clock.new) (clock_answer asked.now i)) }
+    ensures routines { IfOk result (λ i.
+        Tells (R.told routines.old) (R.told routines.new) (routine_answer asked.now i)) }
     ensures opens { IfOk result (λ i. OpensBy (L.is_open link.old) (L.is_open link.new) i) }
-    ensures failed { result ≡ Err Stop.Link → FailsWaiting asked.now (M.wanted machine.now) (L.told link.old) (L.told link.new) }
-    ensures clock_kept { result ≡ Err Stop.Link → C.told clock.new ≡ C.told clock.old }
-    ensures routines_kept { result ≡ Err Stop.Link → R.told routines.new ≡ R.told routines.old }
+    ensures fails { IfErr result (λ why.
+        FailsToAnswer why asked.now (M.wanted machine.now) (L.told link.old) (L.told link.new)) }
+    ensures clock_kept { OnErr result (C.told clock.new ≡ C.told clock.old) }
+    ensures routines_kept { OnErr result (Tells (R.told routines.old) (R.told routines.new) []) }
     ensures cause { Counts (L.faults link.old) (L.faults link.new) (result ≡ Err Stop.Link) }
-    ensures no_write { result ≡ Err Stop.Write → ⊥ }
 {
     match asked {
         Ask::Quiet => unreachable!(),

@@ -1,7 +1,9 @@
 use Rattle.std.proofs.Common.{refl, arith, ◌+◌}
 use Rattle.std.proofs.lemmas.Result.{err_from_is_err_and}
+use Rattle.serving.specs.declared.stop.Stop.TheVariants as stops
 use Rattle.serving.specs.Serving.{scene}
-use Rattle.serving.proofs.ServingLaws.{serves_shown, serves_round, stops_later, same_stop}
+use Rattle.serving.proofs.ServingLaws.{serves_shown, serves_round}
+use Rattle.serving.proofs.StoppingLaws.{stops_here, stops_later}
 use Rattle.serving.proofs.rounds.serve_answers.Goals as goal
 
 pub loop-given-init : goal.loop-given-init
@@ -43,18 +45,46 @@ loop-given-preserved g c =
       more = omega (arith, c.loop-given.invariant.more, one.write_cause.later);
     }
 
-pub returns-in_err-answer_one-clause-fault : goal.returns-in_err-answer_one-clause-fault
-returns-in_err-answer_one-clause-fault g c = λ stopped.
+pub returns-in_err-answer_one-clause-stops : goal.returns-in_err-answer_one-clause-stops
+returns-in_err-answer_one-clause-stops g c =
     let course = g.M.Machine.course in
     let told = g.L.Link.told in
     let times = g.C.Clock.told in
     let acts = g.R.Routines.told in
     let held = g.K.Sink.held in
     let p = err_from_is_err_and c.from_residual-in_err-answer_one.result c.from_residual-in_err-answer_one.ensures.1 in
-    let link = same_stop c.from_residual-in_err-answer_one.result p.0 c.in_err-answer_one.field-0.0 p.1 p.2 stopped in
     let start = scene (course c.args.machine.now) (told c.args.link.now) (times c.args.clock.now) (acts c.args.routines.now) (held c.args.out.now) in
-    let before = scene (course c.loop-given.machine) (told c.loop-given.link) (times c.loop-given.clock) (acts c.loop-given.routines) (held c.loop-given.out) in (
-      c.loop-given.given + 0,
-      stops_later c.loop-given.given 0 start before (told c.answer_one.new.link) (times c.answer_one.new.clock) (acts c.answer_one.new.routines) (held c.answer_one.new.out)
-          c.loop-given.invariant.served (c.in_err-answer_one.ensures.fault link),
-    )
+    let before = scene (course c.loop-given.machine) (told c.loop-given.link) (times c.loop-given.clock) (acts c.loop-given.routines) (held c.loop-given.out) in
+    let after = scene (course c.answer_one.new.machine) (told c.answer_one.new.link) (times c.answer_one.new.clock) (acts c.answer_one.new.routines) (held c.answer_one.new.out) in
+    rw (p.1, p.2) (stops_later c.in_err-answer_one.field-0.0 c.loop-given.given 0 c.args.answers start before after (omega (arith, c.loop-given.invariant.within))
+    c.loop-given.invariant.served c.in_err-answer_one.ensures.stops)
+
+pub returns-in_err-tell_events-clause-stops : goal.returns-in_err-tell_events-clause-stops
+returns-in_err-tell_events-clause-stops g c =
+    let course = g.M.Machine.course in
+    let told = g.L.Link.told in
+    let times = g.C.Clock.told in
+    let acts = g.R.Routines.told in
+    let held = g.K.Sink.held in
+    let start = scene (course c.args.machine.now) (told c.args.link.now) (times c.args.clock.now) (acts c.args.routines.now) (held c.args.out.now) in
+    let shown = scene (course c.tell_events.new.machine) (told c.tell_events.new.link) (times c.args.clock.now) (acts c.args.routines.now) (held c.args.out.now) in
+    let p = err_from_is_err_and c.from_residual.result c.from_residual.ensures.1 in
+    rw (p.1, p.2) (stops_later stops.Memory 0 0 c.args.answers start shown shown (omega arith)
+    (serves_shown start shown c.in_err-tell_events.ensures.shows refl refl refl) (stops_here shown))
+
+pub returns-in_err-tell_events-2-clause-stops : goal.returns-in_err-tell_events-2-clause-stops
+returns-in_err-tell_events-2-clause-stops g c =
+    let course = g.M.Machine.course in
+    let told = g.L.Link.told in
+    let times = g.C.Clock.told in
+    let acts = g.R.Routines.told in
+    let held = g.K.Sink.held in
+    let start = scene (course c.args.machine.now) (told c.args.link.now) (times c.args.clock.now) (acts c.args.routines.now) (held c.args.out.now) in
+    let before = scene (course c.loop-given.machine) (told c.loop-given.link) (times c.loop-given.clock) (acts c.loop-given.routines) (held c.loop-given.out) in
+    let answered = scene (course c.answer_one.new.machine) (told c.answer_one.new.link) (times c.answer_one.new.clock) (acts c.answer_one.new.routines) (held c.answer_one.new.out) in
+    let shown = scene (course c.tell_events-in-loop-given.new.machine) (told c.tell_events-in-loop-given.new.link) (times c.answer_one.new.clock) (acts c.answer_one.new.routines) (held c.answer_one.new.out) in
+    let p = err_from_is_err_and c.from_residual-in_err-tell_events-2.result c.from_residual-in_err-tell_events-2.ensures.1 in
+    rw (p.1, p.2) (stops_later stops.Memory (c.loop-given.given + 1) 0 c.args.answers start shown shown (omega (arith, c.loop-given-test.true))
+    (serves_round c.loop-given.given start before answered shown c.loop-given.invariant.served c.in_ok-answer_one.ensures.serves
+    (serves_shown answered shown c.in_err-tell_events-2.ensures.shows refl refl refl))
+    (stops_here shown))

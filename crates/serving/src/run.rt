@@ -1,22 +1,26 @@
-//! A whole run.
-ghost use Rattle.std.specs.Prelude.{◌≡◌, [], ◌∷◌, Err, OnOk};
-ghost use Rattle.std.specs.Io.KnownBytes.{Appends};
+//! A whole run of a service.
+ghost use Rattle.std.specs.Prelude.{◌≡◌, [], ◌∷◌, Err, IfErr, OnOk};
 ghost use Rattle.outside.specs.Causes.{Counts};
 ghost use Rattle.outside.specs.Tellings.{Tells};
 ghost use Rattle.outside.specs.Descriptors.{SameOpen};
 ghost use Rattle.outside.specs.LinkCalls.LinkCall.{Listen};
-ghost use Rattle.serving.specs.Serving.{Agrees, IsServed, record_header, scene};
+ghost use Rattle.serving.specs.Machines.{Asks};
+ghost use Rattle.serving.specs.Serving.{Agrees, IsServed, scene};
+ghost use Rattle.serving.specs.Stopping.{IsStopped};
 
 use crate::machine::Machine;
+use crate::record::put_header;
 use crate::rounds::serve_answers;
 use crate::stop::Stop;
-use outside::{Clock, Done, Link, Routines, Sink, put_all};
+use outside::{Clock, Done, Link, Routines, Sink};
 use std::alloc::Global;
 
 /// Listens at the path.
 fn listen<L: Link>(link: &mut L, path: &str) -> Result<(), Stop>
     ensures told { OnOk result (Tells (L.told link.old) (L.told link.new) (Listen path.now Done.Done ∷ [])) }
-    ensures failed { result ≡ Err Stop.Link → Tells (L.told link.old) (L.told link.new) (Listen path.now Done.Failed ∷ []) }
+    ensures failed { result ≡ Err Stop.Link →
+        Tells (L.told link.old) (L.told link.new) (Listen path.now Done.Failed ∷ []) }
+    ensures untold { result ≡ Err Stop.Memory → Tells (L.told link.old) (L.told link.new) [] }
     ensures open { SameOpen (L.is_open link.old) (L.is_open link.new) }
     ensures cause { Counts (L.faults link.old) (L.faults link.new) (result ≡ Err Stop.Link) }
     ensures no_write { result ≡ Err Stop.Write → ⊥ }
@@ -27,21 +31,15 @@ fn listen<L: Link>(link: &mut L, path: &str) -> Result<(), Stop>
     }
 }
 
-/// Puts the header of the record.
-fn put_header<K: Sink>(out: &mut K) -> Result<(), Stop>
-    ensures put { OnOk result (Appends (K.held out.old) (K.held out.new) record_header) }
-    ensures cause { Counts (K.faults out.old) (K.faults out.new) (result ≡ Err Stop.Write) }
-    ensures no_link { result ≡ Err Stop.Link → ⊥ }
-{
-    put_all(out, b"tv schedule 1 service\n")?;
-    Ok(())
-}
-
-/// Listens at the path, gives so many answers to a machine, and puts them on record.
+/// Serves: listens at the path, puts the header of the record, and gives `answers` answers to the machine, each of
+/// which is put on record before the machine has it. The link, the clock and the routines are asked what the machine's
+/// story over these answers prescribes. It ends at the question behind the last of them.
 ///
 /// # Errors
 ///
-/// `Link` comes only where listening or waiting has failed, and `Write` only where a put has.
+/// `Link` where listening or a wait has failed, and `Write` where a put has, which that end has counted as a fault.
+/// `Memory` where memory ran out. Each time `answers` answers at most were given, and the record is the header with
+/// their lines, and a part of one more line at most.
 pub fn serve<M: Machine, L: Link, C: Clock, R: Routines, K: Sink>(
     alloc: Global,
     path: &str,
@@ -52,8 +50,13 @@ pub fn serve<M: Machine, L: Link, C: Clock, R: Routines, K: Sink>(
     routines: &mut R,
     out: &mut K,
 ) -> Result<(), Stop>
+    // What is open to the machine is open at the link too, the listener aside.
     requires { Agrees (M.is_open machine.old) (L.is_open link.old) }
     ensures served { OnOk result (IsServed path.now answers
+        (scene (M.course machine.old) (L.told link.old) (C.told clock.old) (R.told routines.old) (K.held out.old))
+        (scene (M.course machine.new) (L.told link.new) (C.told clock.new) (R.told routines.new) (K.held out.new))) }
+    ensures asks { OnOk result (Asks (M.asked machine.new) (M.wanted machine.new) (M.course machine.new)) }
+    ensures stops { IfErr result (λ why. IsStopped path.now answers why
         (scene (M.course machine.old) (L.told link.old) (C.told clock.old) (R.told routines.old) (K.held out.old))
         (scene (M.course machine.new) (L.told link.new) (C.told clock.new) (R.told routines.new) (K.held out.new))) }
     ensures link_cause { Counts (L.faults link.old) (L.faults link.new) (result ≡ Err Stop.Link) }
