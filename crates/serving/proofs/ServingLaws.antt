@@ -1,5 +1,5 @@
 -- Runs of the serving loop, one after another.
-use Rattle.std.proofs.Common.{◌≡◌, ◌≢◌, ◌==◌, ◌≤◌, ◌⊎◌, inl, inr, ℕ, ◌+◌, Bool, true, false, not, ◌&&◌, ◌||◌, Result, Ok, Err, subst, List, [], ◌∷◌, ◌++◌, length, Option, Some, None, refl, sym, ap, ◌∙◌, length-append, arith}
+use Rattle.std.proofs.Common.{◌≡◌, ◌==◌, ◌≤◌, inl, inr, ℕ, ◌+◌, Bool, true, false, ◌||◌, Ok, subst, List, [], ◌∷◌, ◌++◌, Option, Some, None, refl, sym, ap, ◌∙◌, length-append, arith}
 use Rattle.std.specs.Prelude.{flat_map}
 use Rattle.std.proofs.lemmas.List.{append-nil, append_assoc}
 use Rattle.std.proofs.lemmas.Bool.{cases_eq}
@@ -10,7 +10,6 @@ use Rattle.tree_specs.specs.declared.event.Event.{Event}
 use Rattle.tree_specs.specs.declared.event.Event.TheVariants as events
 use Rattle.tree_specs.specs.declared.moment.Moment.{Moment}
 use Rattle.tree_specs.specs.declared.question.Ask.{Ask}
-use Rattle.tree_specs.specs.declared.question.Ask.TheVariants as ask
 use Rattle.tree_specs.specs.declared.question.Act.{Act}
 use Rattle.tree_specs.specs.declared.question.Input.{Input}
 use Rattle.tree_specs.specs.declared.question.Input.TheVariants as inputs
@@ -22,8 +21,8 @@ use Rattle.outside.specs.LinkCalls.{LinkCall}
 use Rattle.outside.specs.LinkCalls.LinkCall.{Listen}
 use Rattle.outside.specs.Tellings.{Tells}
 use Rattle.outside.proofs.TellingLaws.{tells_same, tells_then}
-use Rattle.serving.specs.Exchanges.{Exchange, exchanges, closing, link_answer, clock_answer, routine_answer, link_part, clock_part, routine_part}
-use Rattle.serving.specs.Exchanges.Exchange.{Answered, Closed}
+use Rattle.serving.specs.Exchanges.{exchanges, closing, link_answer, clock_answer, routine_answer, link_part, clock_part, routine_part}
+use Rattle.serving.specs.Exchanges.Exchange.{Answered}
 use Rattle.serving.specs.Machines.{Course, TellsNext, Asks, SameCourse, OpenAfter, OpenTaken}
 use Rattle.serving.specs.Serving.{Scene, Serves, Shows, Agrees, OpenClosed, OpensBy, IsServed, record_header}
 

@@ -1,13 +1,11 @@
 -- Where serving stops: at a question, at its line, and after answers that were given before.
-use Rattle.std.proofs.Common.{◌≡◌, ◌≢◌, ◌≤◌, ℕ, ◌+◌, List, [], ◌∷◌, ◌++◌, length, take, Option, Some, None, Result, Err, refl, sym, ap, ◌∙◌, subst, length-append, arith}
+use Rattle.std.proofs.Common.{◌≡◌, ◌≢◌, ◌≤◌, ℕ, ◌+◌, List, [], ◌∷◌, ◌++◌, length, take, Option, Some, None, Result, Err, refl, sym, ◌∙◌, length-append, arith}
 use Rattle.std.specs.Prelude.{flat_map}
-use Rattle.std.proofs.lemmas.List.{append-nil, append_assoc}
+use Rattle.std.proofs.lemmas.List.{append_assoc}
 use Rattle.std.specs.Io.KnownBytes.{Appends}
 use Rattle.std.proofs.KnownBytes.{Appends-trans, Appends-nil}
-use Rattle.tree_specs.specs.declared.moment.Moment.{Moment}
 use Rattle.tree_specs.specs.declared.question.Ask.{Ask}
 use Rattle.tree_specs.specs.declared.question.Ask.TheVariants as ask
-use Rattle.tree_specs.specs.declared.question.Act.{Act}
 use Rattle.tree_specs.specs.declared.question.Input.{Input}
 use Rattle.tree_specs.specs.declared.wants.Want.{Want}
 use Rattle.tree_specs.specs.Texts.Text.{input_text}
@@ -17,8 +15,8 @@ use Rattle.outside.proofs.TellingLaws.{tells_same, tells_then}
 use Rattle.serving.specs.declared.stop.Stop.{Stop}
 use Rattle.serving.specs.declared.stop.Stop.TheVariants as stops
 use Rattle.serving.specs.Exchanges.{exchanges, link_answer, clock_answer, routine_answer, link_part, clock_part, routine_part}
-use Rattle.serving.specs.Serving.{Scene, Serves, Suits, scene}
-use Rattle.serving.specs.Stopping.{Begun, begun_link, begun_clock, begun_routines, begun_line, calls_for, FailsToAnswer, IsOpen, Stops}
+use Rattle.serving.specs.Serving.{Scene, Serves, Suits}
+use Rattle.serving.specs.Stopping.{begun_link, begun_clock, begun_routines, begun_line, calls_for, FailsToAnswer, IsOpen, Stops}
 use Rattle.serving.specs.Stopping.Begun.{Nothing, FailedWait, Forgotten, Heard}
 use Rattle.serving.proofs.ServingLaws.{flat-both}
 

@@ -1,5 +1,5 @@
 -- What a machine tells and asks, by the story still to come.
-use Rattle.std.specs.Prelude.{◌≡◌, ◌≢◌, ℕ, ◌≤◌, ◌&&◌, nat_le, Bool, true, false, List, [], ◌∷◌, Option, Some, None, IsSome, Result, Ok, Err, ◌⊎◌}
+use Rattle.std.specs.Prelude.{◌≡◌, ◌≢◌, ℕ, ◌&&◌, nat_le, Bool, true, false, List, [], ◌∷◌, Option, Some, None, IsSome, Result, Ok, Err, ◌⊎◌}
 use Rattle.tree_specs.specs.declared.bounds.TheConstants.{OCTETS_LIMIT}
 use Rattle.tree_specs.specs.declared.event.Event.{Event}
 use Rattle.tree_specs.specs.declared.event.Event.TheVariants as events
@@ -10,9 +10,6 @@ use Rattle.tree_specs.specs.declared.question.Input.{Input}
 use Rattle.tree_specs.specs.declared.question.Input.TheVariants as input
 use Rattle.tree_specs.specs.declared.wants.Want.{Want}
 use Rattle.tree_specs.specs.Rules.Items.Item.{Told, Asked}
-use Rattle.tree_specs.specs.Texts.Schedule.{misfit}
-use Rattle.serving.specs.declared.machine.OfferFault.{OfferFault}
-use Rattle.serving.specs.declared.machine.OfferFault.TheVariants as faults
 use Rattle.serving.specs.Exchanges.{WatchedItem}
 
 -- the story still to come, as a function of the inputs still to come

@@ -1,5 +1,5 @@
 -- What a run of the serving loop does to what it is over.
-use Rattle.std.specs.Prelude.{◌≡◌, ℕ, Bool, true, ◌≤◌, List, [], ◌∷◌, ◌++◌, length, flat_map, Option, Some, None, IsTrue}
+use Rattle.std.specs.Prelude.{◌≡◌, ℕ, Bool, true, ◌≤◌, List, [], ◌++◌, length, flat_map, Option, Some, None, IsTrue}
 use Rattle.std.specs.Io.KnownBytes.{Appends}
 use Rattle.tree_specs.specs.declared.event.Event.{Event}
 use Rattle.tree_specs.specs.declared.event.Event.TheVariants as events
@@ -8,7 +8,6 @@ use Rattle.tree_specs.specs.declared.question.Ask.{Ask}
 use Rattle.tree_specs.specs.declared.question.Act.{Act}
 use Rattle.tree_specs.specs.declared.question.Input.{Input}
 use Rattle.tree_specs.specs.declared.question.Input.TheVariants as input
-use Rattle.tree_specs.specs.declared.wants.Want.{Want}
 use Rattle.tree_specs.specs.Texts.Schedule.{misfit, service_header}
 use Rattle.tree_specs.specs.Texts.Text.{input_text, newline}
 use Rattle.tree_specs.specs.Words.Ranges.{is_sound}
@@ -76,8 +75,8 @@ OpenClosed e before after = SameOpen before after
 abbrev pub record_header : List ℕ
 record_header = service_header ++ newline
 
--- So many answers were given to a machine with this story. The link was told to listen at the path, and the ends were asked what
--- the story over these answers prescribes; the header and the line of each answer were put.
+-- So many answers were given to a machine with this story. The link was told to listen at the path, and the ends were
+-- asked what the story over these answers prescribes; the header and the line of each answer were put.
 pub record IsServed (path : List ℕ) (answers : ℕ) (before after : Scene) : Type 0 where
   pub given : List Input
   pub many : length given ≡ answers

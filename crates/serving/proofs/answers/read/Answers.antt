@@ -1,4 +1,4 @@
-use Rattle.std.proofs.Common.{◌≡◌, List, take, length, arith}
+use Rattle.std.proofs.Common.{◌≡◌, take, length, arith}
 use Rattle.std.proofs.lemmas.Result.{err_from_is_err_and}
 use Rattle.tree_specs.specs.declared.question.Ask.TheVariants as ask
 use Rattle.tree_specs.specs.declared.question.Input.TheVariants as inputs

@@ -1,4 +1,4 @@
-use Rattle.std.proofs.Common.{◌≡◌, ◌≤◌, ◌-◌}
+use Rattle.std.proofs.Common.{◌≤◌, ◌-◌}
 use Rattle.serving.specs.Machines.{Asks}
 use Rattle.serving.specs.Serving.{Serves, Agrees, scene}
 use Rattle.serving.proofs.rounds.serve_answers.Given as goal
