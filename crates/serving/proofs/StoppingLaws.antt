@@ -1,0 +1,152 @@
+-- Where serving stops: at a question, at its line, and after answers that were given before.
+use Rattle.std.proofs.Common.{◌≡◌, ◌≢◌, ◌≤◌, ℕ, ◌+◌, List, [], ◌∷◌, ◌++◌, length, take, Option, Some, None, Result, Err, refl, sym, ◌∙◌, length-append, arith}
+use Rattle.std.specs.Prelude.{flat_map}
+use Rattle.std.proofs.lemmas.List.{append_assoc}
+use Rattle.std.specs.Io.KnownBytes.{Appends}
+use Rattle.std.proofs.KnownBytes.{Appends-trans, Appends-nil}
+use Rattle.tree_specs.specs.declared.question.Ask.{Ask}
+use Rattle.tree_specs.specs.declared.question.Ask.TheVariants as ask
+use Rattle.tree_specs.specs.declared.question.Input.{Input}
+use Rattle.tree_specs.specs.declared.wants.Want.{Want}
+use Rattle.tree_specs.specs.Texts.Text.{input_text}
+use Rattle.outside.specs.LinkCalls.{LinkCall}
+use Rattle.outside.specs.Tellings.{Tells}
+use Rattle.outside.proofs.TellingLaws.{tells_same, tells_then}
+use Rattle.serving.specs.declared.stop.Stop.{Stop}
+use Rattle.serving.specs.declared.stop.Stop.TheVariants as stops
+use Rattle.serving.specs.Exchanges.{exchanges, link_answer, clock_answer, routine_answer, link_part, clock_part, routine_part}
+use Rattle.serving.specs.Serving.{Scene, Serves, Suits}
+use Rattle.serving.specs.Stopping.{begun_link, begun_clock, begun_routines, begun_line, calls_for, FailsToAnswer, IsOpen, Stops}
+use Rattle.serving.specs.Stopping.Begun.{Nothing, FailedWait, Forgotten, Heard}
+use Rattle.serving.proofs.ServingLaws.{flat-both}
+
+-- memory ran out before a question was put
+pub stops_here : (s : Scene) → Stops stops.Memory 0 s s
+stops_here s = record {
+  given = [];
+  done = [];
+  begun = Nothing;
+  many = omega arith;
+  follows = λ is. refl;
+  next = tt;
+  reason = refl;
+  link = tells_same s.link;
+  clock = tells_same s.clock;
+  routines = tells_same s.routines;
+  part = 0;
+  out = Appends-nil s.out;
+}
+
+-- memory ran out for a question, or for its answer
+stops_losing : (q : Ask) (wanted : List Want) (before after : Scene) → IsOpen q wanted before.course → after.course ≡ before.course →
+    (lost : Option Input) → Tells before.link after.link (calls_for (λ i. link_answer q wanted i) lost) →
+    after.clock ≡ before.clock → Tells before.routines after.routines [] → after.out ≡ before.out → Stops stops.Memory 0 before after
+stops_losing q wanted before after open_now same None l c r o = record {
+  given = [];
+  done = [];
+  begun = Nothing;
+  many = omega arith;
+  follows = λ is. rw same refl;
+  next = tt;
+  reason = refl;
+  link = l;
+  clock = rw c (tells_same before.clock);
+  routines = r;
+  part = 0;
+  out = rw o (Appends-nil before.out);
+}
+stops_losing q wanted before after open_now same (Some i) l c r o = record {
+  given = [];
+  done = [];
+  begun = Forgotten q wanted i;
+  many = omega arith;
+  follows = λ is. rw same refl;
+  next = rw same open_now;
+  reason = refl;
+  link = l;
+  clock = rw c (tells_same before.clock);
+  routines = r;
+  part = 0;
+  out = rw o (Appends-nil before.out);
+}
+
+-- a wait has failed
+stops_waiting : (q : Ask) (wanted : List Want) (before after : Scene) → IsOpen q wanted before.course → after.course ≡ before.course →
+    FailsToAnswer stops.Link q wanted before.link after.link →
+    after.clock ≡ before.clock → Tells before.routines after.routines [] → after.out ≡ before.out → Stops stops.Link 0 before after
+stops_waiting (ask.Wait limit) wanted before after open_now same l c r o = record {
+  given = [];
+  done = [];
+  begun = FailedWait wanted limit;
+  many = omega arith;
+  follows = λ is. rw same refl;
+  next = rw same open_now;
+  reason = refl;
+  link = l;
+  clock = rw c (tells_same before.clock);
+  routines = r;
+  part = 0;
+  out = rw o (Appends-nil before.out);
+}
+stops_waiting q wanted before after open_now same l c r o = absurd l
+
+-- the question had no answer that could be kept
+pub stops_asking : (why : Stop) (q : Ask) (wanted : List Want) (before after : Scene) → IsOpen q wanted before.course → after.course ≡ before.course →
+    FailsToAnswer why q wanted before.link after.link →
+    after.clock ≡ before.clock → Tells before.routines after.routines [] → after.out ≡ before.out → Stops why 0 before after
+stops_asking stops.Write q wanted before after open_now same l c r o = absurd l
+stops_asking stops.Link q wanted before after open_now same l c r o = stops_waiting q wanted before after open_now same l c r o
+stops_asking stops.Memory q wanted before after open_now same l c r o = stops_losing q wanted before after open_now same l.lost l.told c r o
+
+-- the answer came, and the machine hasn't taken it
+pub stops_hearing : (why : Stop) (q : Ask) (wanted : List Want) (i : Input) (before after : Scene) → IsOpen q wanted before.course → after.course ≡ before.course →
+    why ≢ stops.Link → Suits q i →
+    Tells before.link after.link (link_answer q wanted i) → Tells before.clock after.clock (clock_answer q i) → Tells before.routines after.routines (routine_answer q i) →
+    (n : ℕ) → Appends before.out after.out (take n (input_text i)) → Stops why 0 before after
+stops_hearing why q wanted i before after open_now same w s l c r n o = record {
+  given = [];
+  done = [];
+  begun = Heard q wanted i;
+  many = omega arith;
+  follows = λ is. rw same refl;
+  next = (rw same open_now, s);
+  reason = w;
+  link = l;
+  clock = c;
+  routines = r;
+  part = n;
+  out = o;
+}
+
+both : {A B : Type 0} (f : A → List B) (xs ys : List A) (zs : List B) → flat_map f (xs ++ ys) ++ zs ≡ flat_map f xs ++ (flat_map f ys ++ zs)
+both f xs ys zs = rw (flat-both f xs ys) (append_assoc (flat_map f xs) (flat_map f ys) zs)
+
+-- answers were given before
+pub stops_later : (why : Stop) (m n most : ℕ) (a b c : Scene) → m + n ≤ most → Serves m a b → Stops why n b c → Stops why most a c
+stops_later why m n most a b c few x y = record {
+  given = x.given ++ y.given;
+  done = x.done ++ y.done;
+  begun = y.begun;
+  many = rw (length-append x.given y.given, x.many) (omega (arith, few, y.many));
+  follows = λ is. rw (append_assoc x.given y.given is, x.follows (y.given ++ is), y.follows is) (sym (append_assoc x.done y.done (exchanges (c.course is) is)));
+  next = y.next;
+  reason = y.reason;
+  link = rw (both link_part x.done y.done (begun_link y.begun)) (tells_then a.link b.link c.link (flat_map link_part x.done) (flat_map link_part y.done ++ begun_link y.begun) x.link y.link);
+  clock = rw (both clock_part x.done y.done (begun_clock y.begun)) (tells_then a.clock b.clock c.clock (flat_map clock_part x.done) (flat_map clock_part y.done ++ begun_clock y.begun) x.clock y.clock);
+  routines = rw (both routine_part x.done y.done (begun_routines y.begun)) (tells_then a.routines b.routines c.routines (flat_map routine_part x.done) (flat_map routine_part y.done ++ begun_routines y.begun) x.routines y.routines);
+  part = y.part;
+  out = rw (both input_text x.given y.given (take y.part (begun_line y.begun))) (Appends-trans a.out b.out c.out (flat_map input_text x.given) (flat_map input_text y.given ++ take y.part (begun_line y.begun)) x.out y.out);
+}
+
+-- there is no memory for an answer
+pub forgets : {T : Type 0} (why : Stop) (q : Ask) (wanted : List Want) (i : Input) (old new : Option (List LinkCall)) →
+    ◌≡◌ {A = Result T Stop} (Err why) (Err stops.Memory) → Tells old new (link_answer q wanted i) → FailsToAnswer why q wanted old new
+forgets why q wanted i old new e told = let same : why ≡ stops.Memory = cc in rw same (record { lost = Some i; told = told })
+
+-- what there is no memory for doesn't stop at the link
+pub memory_not_link : {T : Type 0} (why : Stop) → ◌≡◌ {A = Result T Stop} (Err why) (Err stops.Memory) → why ≢ stops.Link
+memory_not_link why e w = let same : why ≡ stops.Memory = cc in let wrong : stops.Link ≡ stops.Memory = sym w ∙ same in cc
+
+pub take-length : (xs : List ℕ) → take (length xs) xs ≡ xs
+take-length [] = refl
+take-length (x ∷ xs) = rw (take-length xs) refl
