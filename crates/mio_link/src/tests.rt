@@ -41,6 +41,19 @@ fn join(
     Ok((client, answer))
 }
 
+// The first client of a link, which listens from here on.
+fn first_client(
+    stop: &impl Abort,
+    rt: &HostRuntime,
+    link: &mut MioLink<&HostRuntime>,
+    path: &str,
+) -> Result<UnixStream, Fail> {
+    assert_eq!(stop; link.listen(path)?, Done::Done);
+    let (client, answer) = join(rt, link, path)?;
+    assert_eq!(stop; answer, Accepted::Took(1));
+    Ok(client)
+}
+
 fn accepts_reads_and_answers(
     stop: &impl Abort,
     rt: &HostRuntime,
@@ -80,9 +93,7 @@ fn answers_who_sends_no_more(
     link: &mut MioLink<&HostRuntime>,
 ) -> Result<(), Fail> {
     let path = path_of(rt, "half")?;
-    assert_eq!(stop; link.listen(path.as_str())?, Done::Done);
-    let (mut client, answer) = join(rt, link, path.as_str())?;
-    assert_eq!(stop; answer, Accepted::Took(1));
+    let mut client = first_client(stop, rt, link, path.as_str())?;
     client.write_all(b"bye")?;
     client.shutdown(Shutdown::Write)?;
     let mut buf = [0u8; 16];
@@ -105,9 +116,7 @@ fn faults_at_who_has_gone(
     link: &mut MioLink<&HostRuntime>,
 ) -> Result<(), Fail> {
     let path = path_of(rt, "reset")?;
-    assert_eq!(stop; link.listen(path.as_str())?, Done::Done);
-    let (client, answer) = join(rt, link, path.as_str())?;
-    assert_eq!(stop; answer, Accepted::Took(1));
+    let client = first_client(stop, rt, link, path.as_str())?;
     assert_eq!(stop; link.write(1, b"lost"), LinkWrote::Wrote(4));
     drop(client);
     assert_eq!(stop; link.read(1, &mut [0u8; 16]), LinkRead::Fault);
@@ -127,9 +136,7 @@ fn tells_the_first_wanted(
     link: &mut MioLink<&HostRuntime>,
 ) -> Result<(), Fail> {
     let path = path_of(rt, "order")?;
-    assert_eq!(stop; link.listen(path.as_str())?, Done::Done);
-    let (mut first, answer) = join(rt, link, path.as_str())?;
-    assert_eq!(stop; answer, Accepted::Took(1));
+    let mut first = first_client(stop, rt, link, path.as_str())?;
     let (mut second, answer) = join(rt, link, path.as_str())?;
     assert_eq!(stop; answer, Accepted::Took(2));
     first.write_all(b"a")?;
@@ -163,9 +170,7 @@ fn gives_a_closed_descriptor_again(
     link: &mut MioLink<&HostRuntime>,
 ) -> Result<(), Fail> {
     let path = path_of(rt, "again")?;
-    assert_eq!(stop; link.listen(path.as_str())?, Done::Done);
-    let (mut client, answer) = join(rt, link, path.as_str())?;
-    assert_eq!(stop; answer, Accepted::Took(1));
+    let mut client = first_client(stop, rt, link, path.as_str())?;
     link.close(1);
     assert_eq!(stop; client.read(&mut [0u8; 16])?, 0);
     let (_next, answer) = join(rt, link, path.as_str())?;

@@ -1,5 +1,5 @@
 -- Where serving stops: at a question, at its line, and after answers that were given before.
-use Rattle.std.proofs.Common.{◌≡◌, ◌≢◌, ◌≤◌, ℕ, ◌+◌, List, [], ◌∷◌, ◌++◌, length, take, Option, Some, None, Result, Err, refl, sym, ◌∙◌, length-append, arith}
+use Rattle.std.proofs.Common.{◌≡◌, ◌≢◌, ◌≤◌, ℕ, ◌+◌, List, [], ◌++◌, take, Option, Some, None, Result, Err, refl, sym, ◌∙◌, length-append, arith}
 use Rattle.std.specs.Prelude.{flat_map}
 use Rattle.std.proofs.lemmas.List.{append_assoc}
 use Rattle.std.specs.Io.KnownBytes.{Appends}
@@ -16,107 +16,65 @@ use Rattle.serving.specs.declared.stop.Stop.{Stop}
 use Rattle.serving.specs.declared.stop.Stop.TheVariants as stops
 use Rattle.serving.specs.Exchanges.{exchanges, link_answer, clock_answer, routine_answer, link_part, clock_part, routine_part}
 use Rattle.serving.specs.Serving.{Scene, Serves, Suits}
-use Rattle.serving.specs.Stopping.{begun_link, begun_clock, begun_routines, begun_line, calls_for, FailsToAnswer, IsOpen, Stops}
+use Rattle.serving.specs.Stopping.{Begun, begun_link, begun_clock, begun_routines, begun_line, calls_for, Explains, FailsToAnswer, IsNext, IsOpen, Stops}
 use Rattle.serving.specs.Stopping.Begun.{Nothing, FailedWait, Forgotten, Heard}
 use Rattle.serving.proofs.ServingLaws.{flat-both}
 
--- memory ran out before a question was put
-pub stops_here : (s : Scene) → Stops stops.Memory 0 s s
-stops_here s = record {
+-- no answer was given, and this was begun at the question that is open
+stops_at : (b : Begun) (why : Stop) (before after : Scene) → after.course ≡ before.course → IsNext b before.course → Explains b why →
+    Tells before.link after.link (begun_link b) → Tells before.clock after.clock (begun_clock b) → Tells before.routines after.routines (begun_routines b) →
+    (n : ℕ) → Appends before.out after.out (take n (begun_line b)) → Stops why 0 before after
+stops_at b why before after same next reason l c r n o = record {
   given = [];
   done = [];
-  begun = Nothing;
-  many = omega arith;
-  follows = λ is. refl;
-  next = tt;
-  reason = refl;
-  link = tells_same s.link;
-  clock = tells_same s.clock;
-  routines = tells_same s.routines;
-  part = 0;
-  out = Appends-nil s.out;
-}
-
--- memory ran out for a question, or for its answer
-stops_losing : (q : Ask) (wanted : List Want) (before after : Scene) → IsOpen q wanted before.course → after.course ≡ before.course →
-    (lost : Option Input) → Tells before.link after.link (calls_for (λ i. link_answer q wanted i) lost) →
-    after.clock ≡ before.clock → Tells before.routines after.routines [] → after.out ≡ before.out → Stops stops.Memory 0 before after
-stops_losing q wanted before after open_now same None l c r o = record {
-  given = [];
-  done = [];
-  begun = Nothing;
+  begun = b;
   many = omega arith;
   follows = λ is. rw same refl;
-  next = tt;
-  reason = refl;
-  link = l;
-  clock = rw c (tells_same before.clock);
-  routines = r;
-  part = 0;
-  out = rw o (Appends-nil before.out);
-}
-stops_losing q wanted before after open_now same (Some i) l c r o = record {
-  given = [];
-  done = [];
-  begun = Forgotten q wanted i;
-  many = omega arith;
-  follows = λ is. rw same refl;
-  next = rw same open_now;
-  reason = refl;
-  link = l;
-  clock = rw c (tells_same before.clock);
-  routines = r;
-  part = 0;
-  out = rw o (Appends-nil before.out);
-}
-
--- a wait has failed
-stops_waiting : (q : Ask) (wanted : List Want) (before after : Scene) → IsOpen q wanted before.course → after.course ≡ before.course →
-    FailsToAnswer stops.Link q wanted before.link after.link →
-    after.clock ≡ before.clock → Tells before.routines after.routines [] → after.out ≡ before.out → Stops stops.Link 0 before after
-stops_waiting (ask.Wait limit) wanted before after open_now same l c r o = record {
-  given = [];
-  done = [];
-  begun = FailedWait wanted limit;
-  many = omega arith;
-  follows = λ is. rw same refl;
-  next = rw same open_now;
-  reason = refl;
-  link = l;
-  clock = rw c (tells_same before.clock);
-  routines = r;
-  part = 0;
-  out = rw o (Appends-nil before.out);
-}
-stops_waiting q wanted before after open_now same l c r o = absurd l
-
--- the question had no answer that could be kept
-pub stops_asking : (why : Stop) (q : Ask) (wanted : List Want) (before after : Scene) → IsOpen q wanted before.course → after.course ≡ before.course →
-    FailsToAnswer why q wanted before.link after.link →
-    after.clock ≡ before.clock → Tells before.routines after.routines [] → after.out ≡ before.out → Stops why 0 before after
-stops_asking stops.Write q wanted before after open_now same l c r o = absurd l
-stops_asking stops.Link q wanted before after open_now same l c r o = stops_waiting q wanted before after open_now same l c r o
-stops_asking stops.Memory q wanted before after open_now same l c r o = stops_losing q wanted before after open_now same l.lost l.told c r o
-
--- the answer came, and the machine hasn't taken it
-pub stops_hearing : (why : Stop) (q : Ask) (wanted : List Want) (i : Input) (before after : Scene) → IsOpen q wanted before.course → after.course ≡ before.course →
-    why ≢ stops.Link → Suits q i →
-    Tells before.link after.link (link_answer q wanted i) → Tells before.clock after.clock (clock_answer q i) → Tells before.routines after.routines (routine_answer q i) →
-    (n : ℕ) → Appends before.out after.out (take n (input_text i)) → Stops why 0 before after
-stops_hearing why q wanted i before after open_now same w s l c r n o = record {
-  given = [];
-  done = [];
-  begun = Heard q wanted i;
-  many = omega arith;
-  follows = λ is. rw same refl;
-  next = (rw same open_now, s);
-  reason = w;
+  next = rw same next;
+  reason = reason;
   link = l;
   clock = c;
   routines = r;
   part = n;
   out = o;
 }
+
+-- memory ran out before a question was put
+pub stops_here : (s : Scene) → Stops stops.Memory 0 s s
+stops_here s = stops_at Nothing stops.Memory s s refl tt refl (tells_same s.link) (tells_same s.clock) (tells_same s.routines) 0 (Appends-nil s.out)
+
+-- the question had no answer that could be kept
+pub stops_asking : (why : Stop) (q : Ask) (wanted : List Want) (before after : Scene) → IsOpen q wanted before.course → after.course ≡ before.course →
+    FailsToAnswer why q wanted before.link after.link →
+    after.clock ≡ before.clock → Tells before.routines after.routines [] → after.out ≡ before.out → Stops why 0 before after
+stops_asking why q wanted before after open_now same l c r o = each why q l open_now
+  where
+    clock : Tells before.clock after.clock []
+    clock = rw c (tells_same before.clock)
+
+    out : Appends before.out after.out []
+    out = rw o (Appends-nil before.out)
+
+    -- nothing was told of the question, or its answer is lost
+    lost : (q : Ask) (i : Option Input) → Tells before.link after.link (calls_for (λ i. link_answer q wanted i) i) → IsOpen q wanted before.course → Stops stops.Memory 0 before after
+    lost q None l open_now = stops_at Nothing stops.Memory before after same tt refl l clock r 0 out
+    lost q (Some i) l open_now = stops_at (Forgotten q wanted i) stops.Memory before after same open_now refl l clock r 0 out
+
+    failed : (q : Ask) → FailsToAnswer stops.Link q wanted before.link after.link → IsOpen q wanted before.course → Stops stops.Link 0 before after
+    failed (ask.Wait limit) l open_now = stops_at (FailedWait wanted limit) stops.Link before after same open_now refl l clock r 0 out
+    failed q l open_now = absurd l
+
+    each : (why : Stop) (q : Ask) → FailsToAnswer why q wanted before.link after.link → IsOpen q wanted before.course → Stops why 0 before after
+    each stops.Write q l open_now = absurd l
+    each stops.Link q l open_now = failed q l open_now
+    each stops.Memory q l open_now = lost q l.lost l.told open_now
+
+-- the answer came, and the machine hasn't taken it
+pub stops_hearing : (why : Stop) (q : Ask) (wanted : List Want) (i : Input) (before after : Scene) → IsOpen q wanted before.course → after.course ≡ before.course →
+    why ≢ stops.Link → Suits q i →
+    Tells before.link after.link (link_answer q wanted i) → Tells before.clock after.clock (clock_answer q i) → Tells before.routines after.routines (routine_answer q i) →
+    (n : ℕ) → Appends before.out after.out (take n (input_text i)) → Stops why 0 before after
+stops_hearing why q wanted i before after open_now same w s l c r n o = stops_at (Heard q wanted i) why before after same (open_now, s) w l c r n o
 
 both : {A B : Type 0} (f : A → List B) (xs ys : List A) (zs : List B) → flat_map f (xs ++ ys) ++ zs ≡ flat_map f xs ++ (flat_map f ys ++ zs)
 both f xs ys zs = rw (flat-both f xs ys) (append_assoc (flat_map f xs) (flat_map f ys) zs)
@@ -146,7 +104,3 @@ forgets why q wanted i old new e told = let same : why ≡ stops.Memory = cc in 
 -- what there is no memory for doesn't stop at the link
 pub memory_not_link : {T : Type 0} (why : Stop) → ◌≡◌ {A = Result T Stop} (Err why) (Err stops.Memory) → why ≢ stops.Link
 memory_not_link why e w = let same : why ≡ stops.Memory = cc in let wrong : stops.Link ≡ stops.Memory = sym w ∙ same in cc
-
-pub take-length : (xs : List ℕ) → take (length xs) xs ≡ xs
-take-length [] = refl
-take-length (x ∷ xs) = rw (take-length xs) refl

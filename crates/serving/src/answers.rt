@@ -71,7 +71,7 @@ fn octets(alloc: Global, bytes: &[u8]) -> Result<Octets, Stop>
     ensures bytes { IfOk result (λ octets. octets ≡ bytes.now) }
     ensures err { OnErr result (result ≡ Err Stop.Memory) }
 {
-    match Octets::make(bytes.to_vec(alloc).map_err(|_| Stop::Memory)?) {
+    match Octets::make(bytes.to_vec(alloc)?) {
         Some(octets) => Ok(octets),
         None => unreachable!(),
     }
@@ -112,9 +112,7 @@ fn read_most<L: Link>(alloc: Global, link: &mut L, fd: u32, most: u32) -> Result
     ensures opens { IfOk result (λ i. OpensBy (L.is_open link.old) (L.is_open link.new) i) }
 {
     let mut buf = Vec::new(alloc);
-    if buf.resize(most as usize, 0).is_err() {
-        return Err(Stop::Memory);
-    }
+    buf.resize(most as usize, 0)?;
     read(alloc, link, fd, &mut buf)
 }
 
