@@ -1,5 +1,5 @@
 -- What the top call writes, by what its parts wrote.
-use Rattle.std.proofs.Common.{◌≡◌, ℕ, List, Option, Some, None, Result, Ok, Err, sym, subst}
+use Rattle.std.proofs.Common.{◌≡◌, ℕ, List, Option, Some, None, Result, Ok, Err, IfErr, OnOk, sym, subst}
 use Rattle.std.specs.Prelude.{IfSome}
 use Rattle.outside.specs.declared.output.PutError.{PutError}
 use Rattle.outside.specs.declared.output.PutError.TheVariants as put_errors
@@ -9,11 +9,16 @@ use Rattle.schedule_replay.specs.Runs.{Replays, IsFrontOf}
 use Rattle.schedule_replay.proofs.WholeLaws.{not-begun}
 use Rattle.load_schedule.specs.Loads.{PutsFiveLines}
 use Rattle.load_schedule.proofs.LoadLaws.{load-front}
-use Rattle.command_words.specs.declared.command.Command.{Command}
-use Rattle.command_words.specs.declared.command.Command.TheVariants.{Replay, Load}
+use Rattle.command_words.specs.CommandLine.{Asked}
+use Rattle.command_words.specs.CommandLine.Asked.{Load, Replay, Serve}
 use Rattle.host_app.specs.declared.status.Status.{Status}
 use Rattle.host_app.specs.declared.status.Status.TheVariants as statuses
-use Rattle.host_app.specs.Statuses.{status_of, status_of_load}
+use Rattle.serving.specs.declared.stop.Stop.{Stop}
+use Rattle.serving.specs.declared.stop.Stop.TheVariants as stops
+use Rattle.serving.specs.Stations.{Ends, ServesLines, StopsLines}
+use Rattle.serving.proofs.LinesLaws.{no_service}
+use Rattle.host_app.specs.Serves.{Serves}
+use Rattle.host_app.specs.Statuses.{status_of, status_of_load, status_of_service}
 use Rattle.host_app.specs.Mains.{Loads}
 
 -- without memory a replay has written a prefix
@@ -47,8 +52,36 @@ loads-same m n k l held now status e h = let s = same-load m n k l e in subst (�
 pub not-load : (number count : ℕ) → Some Replay ≡ Some (Load number count) → ⊥
 not-load number count e = cc
 
-pub not-named : (number count : ℕ) (c : Option Command) → c ≡ None → c ≡ Some (Load number count) → ⊥
-not-named number count c e f = let g : None ≡ Some (Load number count) = subst (λ (d : Option Command). d ≡ Some (Load number count)) e f in cc
+pub not-named : (asked : Asked) (c : Option Asked) → c ≡ None → c ≡ Some asked → ⊥
+not-named asked c e f = let g : None ≡ Some asked = subst (λ (d : Option Asked). d ≡ Some asked) e f in cc
 
 pub load-none : (number count : ℕ) (held now : Option (List ℕ)) (status : Status) → now ≡ held → status ≡ statuses.NoMemory → Loads number count held now status
 load-none number count held now status e m = rw (m, e) (load-front number count held)
+
+-- ---- the service of lines
+
+pub not-serve : (path : List ℕ) (answers : ℕ) → Some Replay ≡ Some (Serve path answers) → ⊥
+not-serve path answers e = cc
+
+pub load-not-serve : (path : List ℕ) (answers number count : ℕ) → Some (Load number count) ≡ Some (Serve path answers) → ⊥
+load-not-serve path answers number count e = cc
+
+pub serves-by : (path : List ℕ) (answers : ℕ) (r : Result (Unit {0}) Stop) (status : Status) (before after : Ends) → status ≡ status_of_service r → OnOk r (ServesLines path answers before after)
+    → IfErr r (λ why. StopsLines path answers why before after) → Serves path answers status before after
+serves-by path answers (Ok done) status before after e ok err = rw e ok
+serves-by path answers (Err stops.Write) status before after e ok err = rw e err
+serves-by path answers (Err stops.Link) status before after e ok err = rw e err
+serves-by path answers (Err stops.Memory) status before after e ok err = rw e err
+
+-- of two names for the same words
+same-serve : (p q : List ℕ) (m n : ℕ) → Some (Serve p m) ≡ Some (Serve q n) → (p ≡ q) × (m ≡ n)
+same-serve p q m n e = (cc, cc)
+
+pub serves-same : (p q : List ℕ) (m n : ℕ) (status : Status) (before after : Ends) → Some (Serve p m) ≡ Some (Serve q n) → Serves p m status before after → Serves q n status before after
+serves-same p q m n status before after e h =
+    let s = same-serve p q m n e in
+    subst (λ (path : List ℕ). Serves path n status before after) s.0 (subst (λ (answers : ℕ). Serves p answers status before after) s.1 h)
+
+-- there was no memory to read the words
+pub serves-none : (path : List ℕ) (answers : ℕ) (status : Status) (e : Ends) → status ≡ statuses.NoMemory → Serves path answers status e e
+serves-none path answers status e is = rw is (no_service path answers e)

@@ -1,9 +1,13 @@
-//! `tvhost replay` reads a schedule from standard input and writes its transcript to standard output, and
-//! `tvhost load NUMBER COUNT` writes five lines on a schedule that is made from a number.
+//! `tvhost replay` reads a schedule from standard input and writes its transcript to standard output, `tvhost serve PATH
+//! ANSWERS` serves lines at a Unix socket and writes the schedule that it served, and `tvhost load NUMBER COUNT` writes five
+//! lines on a schedule that is made from a number.
 #![tactic(auto)]
 
 use host_app::{Status, host_main};
-use outside::{StdSink, StdSource};
+use mio_link::MioLink;
+use outside::{StdSink, StdSource, WallClock};
+use shelf::{Adopt, Chain, Gentle, Routine, Shelf, Spawn, Stubborn};
+use std::alloc::{AllocError, Global};
 use std::io::ErrorKind;
 use std::process::ExitCode;
 use std::{env, io};
@@ -17,21 +21,53 @@ fn words(rt: &HostRuntime) -> io::Result<Vec<String>> {
     Ok(words.skip(1).collect::<Vec<String>>(rt.alloc())?)
 }
 
+/// The routines that an object may name, which have the numbers from 16 upwards.
+fn routines(alloc: Global) -> Result<Shelf, AllocError> {
+    let mut routines: Vec<Box<dyn Routine>> = Vec::new(alloc);
+    routines.push(Box::new(alloc, Gentle)?)?;
+    routines.push(Box::new(alloc, Stubborn { left: 3 })?)?;
+    routines.push(Box::new(alloc, Chain)?)?;
+    routines.push(Box::new(alloc, Adopt)?)?;
+    routines.push(Box::new(alloc, Spawn)?)?;
+    Ok(Shelf { routines })
+}
+
+/// Does what the words say over the real ends: standard input, output and error, sockets, and the system's clock.
+fn run(rt: &HostRuntime, words: &[String], routines: &mut Shelf) -> Status {
+    let mut input = StdSource::new(rt.reader());
+    let mut out = StdSink::new(io::writer(rt));
+    let mut err = StdSink::new(rt.stderr());
+    let mut link = MioLink::new(rt, rt.alloc());
+    let mut clock = WallClock::new(rt);
+    host_main(
+        rt.alloc(),
+        words,
+        &mut input,
+        &mut out,
+        &mut err,
+        &mut link,
+        &mut clock,
+        routines,
+    )
+}
+
+/// Says that there was no memory to begin with.
+fn no_memory(rt: &HostRuntime) -> ExitCode {
+    let _ = rt.eprintln("no memory");
+    ExitCode::from(Status::NoMemory.number())
+}
+
 fn main(rt: HostRuntime) -> ExitCode {
     let words = match words(&rt) {
         Ok(words) => words,
-        Err(why) if why.kind() == ErrorKind::OutOfMemory => {
-            let _ = rt.eprintln("no memory");
-            return ExitCode::from(Status::NoMemory.number());
-        }
+        Err(why) if why.kind() == ErrorKind::OutOfMemory => return no_memory(&rt),
         Err(_) => {
             let _ = rt.eprintln("no words");
             return ExitCode::from(NO_WORDS);
         }
     };
-    let mut input = StdSource::new(rt.reader());
-    let mut out = StdSink::new(io::writer(&rt));
-    let mut err = StdSink::new(rt.stderr());
-    let status = host_main(rt.alloc(), &words, &mut input, &mut out, &mut err);
-    ExitCode::from(status.number())
+    match routines(rt.alloc()) {
+        Ok(mut shelf) => ExitCode::from(run(&rt, &words, &mut shelf).number()),
+        Err(AllocError) => no_memory(&rt),
+    }
 }
