@@ -1,5 +1,5 @@
 -- What the service shows is one story, whatever is shown of an event and of a question.
-use Rattle.std.proofs.Common.{◌≡◌, ℕ, suc, zero, ◌+◌, ◌*◌, List, [], ◌∷◌, ◌++◌, length, map, Option, Some, None, refl, sym, ◌∙◌, ap}
+use Rattle.std.proofs.Common.{◌≡◌, ℕ, suc, zero, ◌+◌, ◌*◌, List, [], ◌∷◌, ◌++◌, length, map, Option, Some, None, refl, ◌∙◌, ap}
 use Rattle.std.specs.Option.{option_map}
 use Rattle.std.proofs.lemmas.List.{map-append}
 use Rattle.machine_driver.specs.Driver.{Driver, Kind, Story, later, answered, with_first, filled, through, at_item, answer, shown, shown_item, shown_question, shown_answer, shown_last, shown_of, driven}
@@ -7,12 +7,11 @@ use Rattle.machine_driver.specs.Driver.Kind.{Event as AnEvent, Question as AQues
 use Rattle.tree_specs.specs.declared.event.Event.{Event}
 use Rattle.tree_specs.specs.declared.question.Input.{Input}
 use Rattle.tree_stories.specs.Sights.{Sight, Opening, sights_of}
-use Rattle.tree_specs.specs.Rules.Items.{Item}
 use Rattle.service_rules.specs.declared.task.Task.{Task}
 use Rattle.service_rules.specs.Knowledge.{Knowledge}
 use Rattle.service_rules.specs.Service.{asked_unless, heard, own, showing, shown_events, told}
-use Rattle.service_rules.specs.Stations.{StationView, due_answer, more_answers, still_to_come, story_by, to_come, watched_to_come}
-use Rattle.service_rules.specs.Watching.{Shown, item_of, items_of}
+use Rattle.service_rules.specs.Stations.{StationView, due_answer, more_answers, still_to_come, story_by, watched_to_come}
+use Rattle.service_rules.specs.Watching.{item_of, items_of}
 use Rattle.service_rules.proofs.Steps.{plain_event, plain_question, watched_event, watched_question}
 
 -- ---- the machine behind it gets the same

@@ -51,30 +51,30 @@ Taken known f p i = (g : Frame) × (taken f p i ≡ Some g) × Expects (known_wi
 if-true : {A : Type 0} (b : Bool) (a : A) → b ≡ true → (if b then Some a else None) ≡ Some a
 if-true b a t = rw t refl
 
+-- ---- callers
+
+abbrev pub IsOfCaller : Ask → Type 0
+IsOfCaller ask.Quiet = Unit {0}
+IsOfCaller (ask.Routine m) = Unit {0}
+IsOfCaller q = ⊥
+
+-- what stands on another work as a caller is a routine
+pub caller : (q : Ask) (fs : List Frame) → IsStacked (frame.Call (Asking q)) fs → IsOfCaller q
+caller q [] s = each q s
+  where
+    each : (q : Ask) → IsStacked (frame.Call (Asking q)) [] → IsOfCaller q
+    each ask.Quiet s = tt
+    each _ s = absurd s
+caller q (g ∷ gs) s = each q (server (profile g).waits) s.0
+  where
+    each : (q : Ask) (w : Server) → IsBy w (frame.Call (Asking q)) → IsOfCaller q
+    each (ask.Routine m) w b = tt
+    each _ ByRun b = absurd b
+    each _ ByTurn b = absurd b
+    each _ ByRequest b = absurd b
+    each _ ByFree b = absurd b
+
 module _ (known : ℕ → Bool) (p : Pool) where
-  -- ---- callers
-
-  abbrev IsOfCaller : Ask → Type 0
-  IsOfCaller ask.Quiet = Unit {0}
-  IsOfCaller (ask.Routine m) = Unit {0}
-  IsOfCaller q = ⊥
-
-  -- what stands on another work as a caller is a routine
-  caller : (q : Ask) (fs : List Frame) → IsStacked (frame.Call (Asking q)) fs → IsOfCaller q
-  caller q [] s = each q s
-    where
-      each : (q : Ask) → IsStacked (frame.Call (Asking q)) [] → IsOfCaller q
-      each ask.Quiet s = tt
-      each _ s = absurd s
-  caller q (g ∷ gs) s = each q (server (profile g).waits) s.0
-    where
-      each : (q : Ask) (w : Server) → IsBy w (frame.Call (Asking q)) → IsOfCaller q
-      each (ask.Routine m) w b = tt
-      each _ ByRun b = absurd b
-      each _ ByTurn b = absurd b
-      each _ ByRequest b = absurd b
-      each _ ByFree b = absurd b
-
   caller-takes : (q : Ask) → IsOfCaller q → (i : Input) → Suits q i → Taken known (frame.Call (Asking q)) p i
   caller-takes ask.Quiet o (input.Call c) s = (doing ask.Quiet c, if-true (is_sound_call c) (doing ask.Quiet c) s.sound, tt)
   caller-takes (ask.Routine m) o (input.Act (act.Do c)) s = (doing (ask.Routine m) c, if-true (is_sound_call c) (doing (ask.Routine m) c) s.sound, tt)

@@ -1,5 +1,5 @@
 -- What a story has to do with the outside: its questions with their answers, and what it closes.
-use Rattle.std.specs.Prelude.{◌≡◌, ℕ, Bool, true, false, not, ◌==◌, ◌&&◌, ◌||◌, List, [], ◌∷◌, ◌++◌, Option, Some, None, IsTrue, ⊤}
+use Rattle.std.specs.Prelude.{◌≡◌, ℕ, Bool, true, not, ◌==◌, ◌&&◌, ◌||◌, List, [], ◌∷◌, ◌++◌, Some, None, IsTrue, ⊤}
 use Rattle.machine_driver.specs.Driver.Kind.{Event as AnEvent, Question as AQuestion}
 use Rattle.tree_specs.specs.declared.event.Event.{Event}
 use Rattle.tree_specs.specs.declared.event.Event.TheVariants as events
@@ -9,7 +9,7 @@ use Rattle.tree_specs.specs.declared.question.Input.TheVariants as input
 use Rattle.tree_specs.specs.declared.wants.Want.{Want}
 use Rattle.tree_specs.specs.Texts.Schedule.{misfit}
 use Rattle.tree_specs.specs.Words.Ranges.{is_sound}
-use Rattle.service_rules.specs.Watching.{Shown, WatchedQuestion}
+use Rattle.service_rules.specs.Watching.{Shown}
 
 -- what the outside has to do with an item
 pub data Exchange : Type 0 where

@@ -15,3 +15,4 @@ pub mod Fair
 pub mod Fitting
 pub mod Suiting
 pub mod Stations
+pub mod ReadRanges

@@ -1,6 +1,6 @@
 -- The story of the service with what is watched while each of its questions is open.
-use Rattle.std.specs.Prelude.{ℕ, suc, List, length, Option, map}
-use Rattle.machine_driver.specs.Driver.{Driver, Kind, driven, items_or_none}
+use Rattle.std.specs.Prelude.{suc, List, length, Option, map}
+use Rattle.machine_driver.specs.Driver.{Driver, Kind, driven}
 use Rattle.machine_driver.specs.Driver.Kind.{Event as AnEvent, Question as AQuestion}
 use Rattle.tree_specs.specs.declared.event.Event.{Event}
 use Rattle.tree_specs.specs.declared.question.Ask.{Ask}
