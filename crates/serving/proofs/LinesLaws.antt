@@ -23,7 +23,7 @@ use Rattle.serving.specs.declared.stop.Stop.{Stop}
 use Rattle.serving.specs.declared.stop.Stop.TheVariants as stops
 use Rattle.serving.specs.Machines.{Course, line_course}
 use Rattle.serving.specs.Serving.{IsServed}
-use Rattle.serving.specs.Stations.{Ends, ServesLines, StopsLines, service_course, with_course}
+use Rattle.serving.specs.Stations.{Ends, IsBegun, ServesLines, StopsLines, service_course, with_course}
 use Rattle.serving.specs.Stopping.{IsStopped}
 use Rattle.serving.specs.Stopping.Start.{Silent}
 use Rattle.serving.proofs.FittingLaws.{fits_alike}
@@ -42,9 +42,9 @@ items-shown is =
 answers-fit : (is : List Input) → AllFit (line_course service_course) is → AllFit service_runner.course is
 answers-fit is fit = fits_alike (line_course service_course) service_runner.course (λ js. ap open_question (items-shown js)) (λ js. refl) is fit
 
-serves_lines : (path : List ℕ) (answers : ℕ) (start rest : Course) (before after : Ends) → start ≡ service_course → answers < lines_limit
+serves_lines : (path : List ℕ) (answers : ℕ) (start rest : Course) (before after : Ends) → IsBegun start → answers < lines_limit
     → IsServed path answers (with_course start before) (with_course rest after) → ServesLines path answers before after
-serves_lines path answers start rest before after same few h = go (subst (λ (c : Course). IsServed path answers (with_course c before) (with_course rest after)) same h)
+serves_lines path answers start rest before after begun few h = go (subst (λ (c : Course). IsServed path answers (with_course c before) (with_course rest after)) begun.course h)
   where
     go : IsServed path answers (with_course service_course before) (with_course rest after) → ServesLines path answers before after
     go s = record {
@@ -60,19 +60,19 @@ serves_lines path answers start rest before after same few h = go (subst (λ (c 
       orderly = service-orderly s.given;
     }
 
-stops_lines : (path : List ℕ) (answers : ℕ) (why : Stop) (start rest : Course) (before after : Ends) → start ≡ service_course
+stops_lines : (path : List ℕ) (answers : ℕ) (why : Stop) (start rest : Course) (before after : Ends) → IsBegun start
     → IsStopped path answers why (with_course start before) (with_course rest after) → StopsLines path answers why before after
-stops_lines path answers why start rest before after same h = record { rest = rest; stopped = subst (λ (c : Course). IsStopped path answers why (with_course c before) (with_course rest after)) same h }
+stops_lines path answers why start rest before after begun h = record { rest = rest; stopped = subst (λ (c : Course). IsStopped path answers why (with_course c before) (with_course rest after)) begun.course h }
 
-pub serves_all : {E : Type 0} (r : Result (Unit {0}) E) (path : List ℕ) (answers : ℕ) (start rest : Course) (before after : Ends) → start ≡ service_course → answers < lines_limit
+pub serves_all : {E : Type 0} (r : Result (Unit {0}) E) (path : List ℕ) (answers : ℕ) (start rest : Course) (before after : Ends) → IsBegun start → answers < lines_limit
     → OnOk r (IsServed path answers (with_course start before) (with_course rest after)) → OnOk r (ServesLines path answers before after)
-serves_all (Ok done) path answers start rest before after same few h = serves_lines path answers start rest before after same few h
-serves_all (Err e) path answers start rest before after same few h = tt
+serves_all (Ok done) path answers start rest before after begun few h = serves_lines path answers start rest before after begun few h
+serves_all (Err e) path answers start rest before after begun few h = tt
 
-pub stops_all : (r : Result (Unit {0}) Stop) (path : List ℕ) (answers : ℕ) (start rest : Course) (before after : Ends) → start ≡ service_course
+pub stops_all : (r : Result (Unit {0}) Stop) (path : List ℕ) (answers : ℕ) (start rest : Course) (before after : Ends) → IsBegun start
     → IfErr r (λ why. IsStopped path answers why (with_course start before) (with_course rest after)) → IfErr r (λ why. StopsLines path answers why before after)
-stops_all (Ok done) path answers start rest before after same h = tt
-stops_all (Err why) path answers start rest before after same h = stops_lines path answers why start rest before after same h
+stops_all (Ok done) path answers start rest before after begun h = tt
+stops_all (Err why) path answers start rest before after begun h = stops_lines path answers why start rest before after begun h
 
 -- there was no memory for a service
 pub no_service : (path : List ℕ) (answers : ℕ) (e : Ends) → StopsLines path answers stops.Memory e e

@@ -11,8 +11,13 @@ use Rattle.tree_specs.specs.declared.memory.Memory.{Memory}
 use Rattle.tree_specs.specs.declared.question.Ask.{Ask}
 use Rattle.tree_specs.specs.declared.question.Ask.TheVariants as ask
 use Rattle.tree_specs.specs.declared.question.Input.{Input}
+use Rattle.tree_specs.specs.declared.question.Input.TheVariants as inputs
 use Rattle.tree_specs.specs.Rules.Items.{Item, IsQuestion}
 use Rattle.tree_specs.specs.Machine.View.{question_of}
+use Rattle.tree_specs.specs.Tree.Pool.{Pool}
+use Rattle.tree_specs.specs.Calls.Refusals.{is_open}
+use Rattle.tree_specs.proofs.Tree.Numbered.{by_test}
+use Rattle.host_core.specs.Promises.{taken_by, taken_in}
 use Rattle.service_rules.specs.Exchanges.{AllSuit, Exchange, accepts_new, with_open, without_open}
 use Rattle.service_rules.specs.Exchanges.Exchange.{Answered, Closed}
 use Rattle.service_rules.specs.Service.{first_of_outside}
@@ -21,10 +26,11 @@ use Rattle.service_rules.specs.Stations.{IsAsked, NextLaw, StationView, TakesAns
 use Rattle.service_rules.specs.Stations as stations
 use Rattle.service_rules.specs.Watching.{Shown, items_of}
 use Rattle.service_rules.proofs.AnswersTaken.{answers-taken}
+use Rattle.service_rules.proofs.ReadRanges.{reads-in-range}
 use Rattle.service_rules.proofs.Showing.{items-to-come}
 use Rattle.service_rules.proofs.Steps.{first-strays, first-watched}
-use Rattle.serving.specs.Machines.{Asks, BeginsWith, Course, IsThere, Nexts, SameCourse, Takes, TakesAllThatSuit, is_for_outside, question_shown}
-use Rattle.serving.specs.Stations.{service_course, station_course}
+use Rattle.serving.specs.Machines.{Asks, BeginsWith, Course, IsServable, IsThere, Nexts, SameCourse, Takes, is_for_outside, question_shown}
+use Rattle.serving.specs.Stations.{IsBegun, service_course, station_course}
 use Rattle.serving.proofs.SuitingLaws.{suits_fewer}
 
 -- ---- what is asked
@@ -87,6 +93,20 @@ pub station_takes : {E : Type 0} (r : Result (Unit {0}) E) (v w : StationView) (
 station_takes (Ok done) v w i t = station-takes v w i t
 station_takes (Err why) v w i t = tt
 
+-- only a descriptor that was accepted is open already
+taken_took : (q : Option Ask) (p : Pool) (i : Input) (fd : ℕ) → taken_by q p i ≡ Some fd → i ≡ inputs.Took fd
+taken_took (Some (ask.Accept listener)) p i fd e = each i e
+  where
+    each : (i : Input) → taken_in p i ≡ Some fd → i ≡ inputs.Took fd
+    each (inputs.Took n) e = by_test (is_open p n)
+        (λ t. let h : Some n ≡ Some fd = rw t at e in ap inputs.Took (let k : n ≡ fd = cc in k))
+        (λ t. let h : None ≡ Some fd = rw t at e in cc)
+    each _ e = cc
+taken_took _ p i fd e = cc
+
+pub station_took : (v : StationView) (i : Input) (fd : ℕ) → taken_by (asked_of v) v.host.pool i ≡ Some fd → i ≡ inputs.Took fd
+station_took v i fd e = taken_took (asked_of v) v.host.pool i fd e
+
 -- ---- from the beginning
 
 same-course : (b c : Course) → SameCourse b c → b ≡ c
@@ -95,13 +115,16 @@ same-course b c n =
     ∙ ap (λ (f : List Input → Bool). let x : Course = record { story = c.story; strays = f } in x) (fun_ext n.strays)
 
 -- a service that was set up goes on as a service does from its beginning
-pub begun_course : (v : StationView) → stations.Shows [] unborn v → station_course v ≡ service_course
-begun_course v h =
-    sym (same-course (station_course unborn) (station_course v) (station-same unborn v h))
-    ∙ same-course (station_course unborn) service_course (record { story = first-watched; strays = first-strays })
+pub begun_station : (v : StationView) → stations.Shows [] unborn v → IsBegun (station_course v)
+begun_station v h = record {
+  course =
+      sym (same-course (station_course unborn) (station_course v) (station-same unborn v h))
+      ∙ same-course (station_course unborn) service_course (record { story = first-watched; strays = first-strays });
+}
 
--- and takes all that suits, whatever is open already
-pub begun_takes : (v : StationView) → stations.Shows [] unborn v → (open_now : ℕ → Bool) → TakesAllThatSuit (station_course v) open_now
-begun_takes v h open_now =
-    subst (λ (c : Course). TakesAllThatSuit c open_now) (sym (begun_course v h))
-    (suits_fewer service_course none_open open_now (λ fd none. cc) answers-taken)
+-- and can be served, whatever is open already
+pub begun_servable : (c : Course) → IsBegun c → (open_now : ℕ → Bool) → IsServable c open_now
+begun_servable c b open_now = subst (λ (d : Course). IsServable d open_now) (sym b.course) (record {
+  takes = suits_fewer service_course none_open open_now (λ fd none. cc) answers-taken;
+  reads = λ is shown e. reads-in-range is shown e;
+})

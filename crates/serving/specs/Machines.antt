@@ -1,5 +1,6 @@
 -- What a machine tells and asks, by the story still to come.
 use Rattle.std.specs.Prelude.{◌≡◌, ℕ, Bool, true, false, List, [], ◌∷◌, Option, Some, None, IsSome, Result, Ok, Err, ⊤}
+use Rattle.std.specs.List.{list_all}
 use Rattle.machine_driver.specs.Driver.{items_or_none, with_front}
 use Rattle.machine_driver.specs.Driver.Kind.{Event as AnEvent, Question as AQuestion}
 use Rattle.tree_specs.specs.declared.event.Event.{Event}
@@ -11,6 +12,7 @@ use Rattle.tree_specs.specs.declared.wants.Want.{Want}
 use Rattle.tree_specs.specs.Texts.Runners.{Course as LineCourse}
 use Rattle.tree_specs.specs.Texts.Schedule.{course_by}
 use Rattle.service_rules.specs.Exchanges.{Exchange, exchanges, AllSuit, accepts_new}
+use Rattle.service_rules.specs.ReadRanges.{shows_in_range}
 use Rattle.service_rules.specs.Watching.{Shown, items_of}
 
 -- what is still to come, as functions of the answers still to come
@@ -78,6 +80,15 @@ exchanges_over c is = exchanges (items_or_none (c.story is)) is
 -- Where these are open, no answers are refused that suit their questions, and accept what isn't open then.
 abbrev pub TakesAllThatSuit : Course → (ℕ → Bool) → Type 0
 TakesAllThatSuit c open_now = (is : List Input) → AllSuit (exchanges_over c is) → accepts_new open_now (exchanges_over c is) ≡ true → c.strays is ≡ false
+
+-- each read that it asks for is of as many bytes as may be read at once
+abbrev pub ReadsInRange : Course → Type 0
+ReadsInRange c = (is : List Input) (shown : List Shown) → c.story is ≡ Some shown → list_all shows_in_range shown ≡ true
+
+-- it can be served, where these are open
+pub record IsServable (c : Course) (open_now : ℕ → Bool) : Type 0 where
+  pub takes : TakesAllThatSuit c open_now
+  pub reads : ReadsInRange c
 
 -- the same as whoever reads its answers as the lines of a schedule sees it
 abbrev pub line_course : Course → LineCourse Input

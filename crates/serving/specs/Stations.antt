@@ -11,7 +11,7 @@ use Rattle.outside.specs.Tellings.{Tells}
 use Rattle.service_rules.specs.Exchanges.{exchanges}
 use Rattle.service_rules.specs.Schedules.{strays_behind}
 use Rattle.service_rules.specs.Service.{inputs_behind, service_story}
-use Rattle.service_rules.specs.Stations.{Shows, StationView, strays_to_come, unborn, watched_to_come}
+use Rattle.service_rules.specs.Stations.{StationView, strays_to_come, watched_to_come}
 use Rattle.service_rules.specs.Watching.{Shown, watched_story}
 use Rattle.service_records.specs.Records.{IsScheduleOf, is_short, record_text}
 use Rattle.serving.specs.declared.stop.Stop.{Stop}
@@ -28,9 +28,9 @@ station_course v = record { story = watched_to_come v; strays = strays_to_come v
 abbrev pub service_course : Course
 service_course = record { story = watched_story; strays = λ is. strays_behind (inputs_behind is) }
 
--- nothing has been seen of it yet
-pub record IsBegun (v : StationView) : Type 0 where
-  pub shows : Shows [] unborn v
+-- this is what comes of a service of which nothing has been seen yet
+pub record IsBegun (c : Course) : Type 0 where
+  pub course : c ≡ service_course
 
 -- ---- a service from its beginning
 

@@ -10,6 +10,7 @@ ghost use Rattle.outside.specs.Tellings.{Tells};
 ghost use Rattle.outside.specs.LinkCalls.LinkCall.{Accept, Read, Write};
 ghost use Rattle.serving.specs.Exchanges.{link_answer, clock_answer, routine_answer};
 ghost use Rattle.service_rules.specs.Exchanges.{Suits};
+ghost use Rattle.service_rules.specs.ReadRanges.{reads_in_range};
 ghost use Rattle.serving.specs.Serving.{OpensBy};
 ghost use Rattle.serving.specs.Stopping.{FailsToAnswer};
 ghost use Rattle.serving.specs.Machines.{is_for_outside};
@@ -18,7 +19,7 @@ use crate::machine::Machine;
 use crate::stop::Stop;
 use outside::{Accepted, Clock, Done, Link, LinkRead, LinkWrote, Routines};
 use std::alloc::Global;
-use tree_specs::{Ask, Input, Memory, Moment, OCTETS_LIMIT, Octets, Wants};
+use tree_specs::{Ask, Input, Memory, Moment, Octets, Wants};
 
 /// Waits until something that is watched is ready.
 fn wait<M: Machine, L: Link>(
@@ -101,8 +102,9 @@ fn read<L: Link>(alloc: Global, link: &mut L, fd: u32, buf: &mut [u8]) -> Result
     }
 }
 
-/// Reads so many bytes at most. There is no memory for more than any call may ask for.
+/// Reads so many bytes at most.
 fn read_most<L: Link>(alloc: Global, link: &mut L, fd: u32, most: u32) -> Result<Input, Stop>
+    requires { IsTrue (is_length most) }
     ensures suits { IfOk result (λ i. Suits (ask.Read fd most) i) }
     ensures told { IfOk result (λ i. Tells (L.told link.old) (L.told link.new) (Read fd most i ∷ [])) }
     ensures fails { (wanted : List WantData) → IfErr result (λ why.
@@ -111,9 +113,6 @@ fn read_most<L: Link>(alloc: Global, link: &mut L, fd: u32, most: u32) -> Result
     ensures faults { L.faults link.new ≡ L.faults link.old }
     ensures opens { IfOk result (λ i. OpensBy (L.is_open link.old) (L.is_open link.new) i) }
 {
-    if most == 0 || most as usize > OCTETS_LIMIT {
-        return Err(Stop::Memory);
-    }
     let mut buf = Vec::new(alloc);
     buf.resize(most as usize, 0)?;
     read(alloc, link, fd, &mut buf)
@@ -158,7 +157,8 @@ pub(crate) fn answer<M: Machine, L: Link, C: Clock, R: Routines>(
     clock: &mut C,
     routines: &mut R,
 ) -> Result<Input, Stop>
-    requires { IsTrue (is_for_outside asked.now) }
+    requires outside { IsTrue (is_for_outside asked.now) }
+    requires range { IsTrue (reads_in_range asked.now) }
     ensures suits { IfOk result (λ i. Suits asked.now i) }
     ensures link { IfOk result (λ i.
         Tells (L.told link.old) (L.told link.new) (link_answer asked.now (M.wanted machine.now) i)) }

@@ -2,8 +2,9 @@
 ghost use Rattle.std.specs.Prelude.{◌≡◌, ◌<◌, Err, IfErr, IfOk, OnErr, OnOk};
 ghost use Rattle.tree_specs.specs.Texts.Lines.{lines_limit};
 ghost use Rattle.outside.specs.Causes.{Counts};
-ghost use Rattle.serving.specs.Stations.{IsBegun, ServesLines, StopsLines, ends};
+ghost use Rattle.serving.specs.Stations.{IsBegun, ServesLines, StopsLines, ends, station_course};
 
+use crate::machine::Machine;
 use crate::run::serve;
 use crate::stop::Stop;
 use line_service::Station;
@@ -11,15 +12,40 @@ use outside::{Clock, Link, Routines, Sink};
 use std::alloc::Global;
 use tree_specs::Memory;
 
-/// A service of which nothing has been seen yet.
+/// A line service of which nothing has been seen yet.
 fn begin(alloc: Global) -> Result<Station, Stop>
-    ensures begins { IfOk result (λ station. IsBegun station) }
+    ensures begins { IfOk result (λ station. IsBegun (station_course station)) }
     ensures memory { OnErr result (result ≡ Err Stop.Memory) }
 {
     match Station::new(alloc) {
         Ok(station) => Ok(station),
         Err(Memory) => Err(Stop::Memory),
     }
+}
+
+/// Serves lines with a machine that has a line service's story, from its beginning.
+fn serve_begun<M: Machine, L: Link, C: Clock, R: Routines, K: Sink>(
+    alloc: Global,
+    path: &str,
+    answers: u64,
+    machine: &mut M,
+    link: &mut L,
+    clock: &mut C,
+    routines: &mut R,
+    out: &mut K,
+) -> Result<(), Stop>
+    requires begun { IsBegun (M.course machine.old) }
+    requires few { answers < lines_limit }
+    ensures serves { OnOk result (ServesLines path.now answers
+        (ends (L.told link.old) (C.told clock.old) (R.told routines.old) (K.held out.old))
+        (ends (L.told link.new) (C.told clock.new) (R.told routines.new) (K.held out.new))) }
+    ensures stops { IfErr result (λ why. StopsLines path.now answers why
+        (ends (L.told link.old) (C.told clock.old) (R.told routines.old) (K.held out.old))
+        (ends (L.told link.new) (C.told clock.new) (R.told routines.new) (K.held out.new))) }
+    ensures link_cause { Counts (L.faults link.old) (L.faults link.new) (result ≡ Err Stop.Link) }
+    ensures write_cause { Counts (K.faults out.old) (K.faults out.new) (result ≡ Err Stop.Write) }
+{
+    serve(alloc, path, answers, machine, link, clock, routines, out)
 }
 
 /// Serves lines at the path: a line service is made, and `answers` answers are given to it, each of which is put on
@@ -52,7 +78,7 @@ pub fn serve_lines<L: Link, C: Clock, R: Routines, K: Sink>(
     ensures write_cause { Counts (K.faults out.old) (K.faults out.new) (result ≡ Err Stop.Write) }
 {
     let mut station = begin(alloc)?;
-    serve(
+    serve_begun(
         alloc,
         path,
         answers,
