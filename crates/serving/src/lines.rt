@@ -1,8 +1,8 @@
 //! The line service is served, from its beginning.
-ghost use Rattle.std.specs.Prelude.{◌≡◌, ◌<◌, Err, IfErr, IfOk, OnErr, OnOk};
+ghost use Rattle.std.specs.Prelude.{◌≡◌, ◌<◌, Err, IfErr, OnOk};
 ghost use Rattle.tree_specs.specs.Texts.Lines.{lines_limit};
 ghost use Rattle.outside.specs.Causes.{Counts};
-ghost use Rattle.serving.specs.Stations.{IsBegun, ServesLines, StopsLines, ends, station_course};
+ghost use Rattle.serving.specs.Stations.{IsBegun, ServesLines, StopsLines, ends};
 
 use crate::machine::Machine;
 use crate::run::serve;
@@ -12,29 +12,18 @@ use outside::{Clock, Link, Routines, Sink};
 use std::alloc::Global;
 use tree_specs::Memory;
 
-/// A line service of which nothing has been seen yet.
-fn begin(alloc: Global) -> Result<Station, Stop>
-    ensures begins { IfOk result (λ station. IsBegun (station_course station)) }
-    ensures memory { OnErr result (result ≡ Err Stop.Memory) }
-{
-    match Station::new(alloc) {
-        Ok(station) => Ok(station),
-        Err(Memory) => Err(Stop::Memory),
-    }
-}
-
-/// Serves lines with a machine that has a line service's story, from its beginning.
+/// Serves lines with a machine that has a line service's story, from its beginning. The machine is given up at the end.
 fn serve_begun<M: Machine, L: Link, C: Clock, R: Routines, K: Sink>(
     alloc: Global,
     path: &str,
     answers: u64,
-    machine: &mut M,
+    mut machine: M,
     link: &mut L,
     clock: &mut C,
     routines: &mut R,
     out: &mut K,
 ) -> Result<(), Stop>
-    requires begun { IsBegun (M.course machine.old) }
+    requires begun { IsBegun (M.course machine) }
     requires few { answers < lines_limit }
     ensures serves { OnOk result (ServesLines path.now answers
         (ends (L.told link.old) (C.told clock.old) (R.told routines.old) (K.held out.old))
@@ -45,7 +34,16 @@ fn serve_begun<M: Machine, L: Link, C: Clock, R: Routines, K: Sink>(
     ensures link_cause { Counts (L.faults link.old) (L.faults link.new) (result ≡ Err Stop.Link) }
     ensures write_cause { Counts (K.faults out.old) (K.faults out.new) (result ≡ Err Stop.Write) }
 {
-    serve(alloc, path, answers, machine, link, clock, routines, out)
+    serve(
+        alloc,
+        path,
+        answers,
+        &mut machine,
+        link,
+        clock,
+        routines,
+        out,
+    )
 }
 
 /// Serves lines at the path: a line service is made, and `answers` answers are given to it, each of which is put on
@@ -77,15 +75,8 @@ pub fn serve_lines<L: Link, C: Clock, R: Routines, K: Sink>(
     ensures link_cause { Counts (L.faults link.old) (L.faults link.new) (result ≡ Err Stop.Link) }
     ensures write_cause { Counts (K.faults out.old) (K.faults out.new) (result ≡ Err Stop.Write) }
 {
-    let mut station = begin(alloc)?;
-    serve_begun(
-        alloc,
-        path,
-        answers,
-        &mut station,
-        link,
-        clock,
-        routines,
-        out,
-    )
+    match Station::new(alloc) {
+        Ok(station) => serve_begun(alloc, path, answers, station, link, clock, routines, out),
+        Err(Memory) => Err(Stop::Memory),
+    }
 }
