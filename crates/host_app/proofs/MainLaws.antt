@@ -1,6 +1,9 @@
 -- What the top call writes, by what its parts wrote.
-use Rattle.std.proofs.Common.{◌≡◌, ℕ, List, Option, Some, None, Result, Ok, Err, IfErr, OnOk, sym, subst}
+use Rattle.std.proofs.Common.{◌≡◌, ℕ, List, length, Option, Some, None, Result, Ok, Err, IfErr, OnOk, refl, sym, ◌∙◌, ap, subst, ◌⊎◌, inl, inr}
 use Rattle.std.specs.Prelude.{IfSome}
+use Rattle.service_rules.specs.Schedules.{judge}
+use Rattle.outside.specs.Causes.{Counts, Rose}
+use Rattle.outside.specs.Outputs.{LeavesRoom, PutsAll}
 use Rattle.outside.specs.declared.output.PutError.{PutError}
 use Rattle.outside.specs.declared.output.PutError.TheVariants as put_errors
 use Rattle.schedule_replay.specs.declared.ran.Ran.{Ran}
@@ -19,7 +22,7 @@ use Rattle.serving.specs.Stations.{Ends, ServesLines, StopsLines}
 use Rattle.serving.proofs.LinesLaws.{no_service}
 use Rattle.host_app.specs.Serves.{Serves}
 use Rattle.host_app.specs.Statuses.{status_of, status_of_load, status_of_service}
-use Rattle.host_app.specs.Mains.{Loads}
+use Rattle.host_app.specs.Mains.{Loads, Says}
 
 -- without memory a replay has written a prefix
 pub replay-front : (left read held now : Option (List ℕ)) (ran : Ran) (status : Status) → status ≡ status_of ran → IfSome left (λ bytes. Replays bytes read held now ran) → status ≡ statuses.NoMemory → IfSome left (λ bytes. IsFrontOf bytes held now)
@@ -32,6 +35,30 @@ replay-front (Some bytes) read held now rans.Done status e r m = absurd (other (
 replay-front (Some bytes) read held now rans.ReadFault status e r m = let g : statuses.ReadFault ≡ statuses.NoMemory = subst (λ (s : Status). s ≡ statuses.NoMemory) e m in cc
 replay-front (Some bytes) read held now (rans.BadSchedule line reason) status e r m = let g : statuses.BadSchedule line reason ≡ statuses.NoMemory = subst (λ (s : Status). s ≡ statuses.NoMemory) e m in cc
 replay-front (Some bytes) read held now rans.WriteFault status e r m = let g : statuses.WriteFault ≡ statuses.NoMemory = subst (λ (s : Status). s ≡ statuses.NoMemory) e m in cc
+
+-- a replay is done or without memory, where no line is rejected and no fault was counted
+abbrev Completes : Option (List ℕ) → ℕ → ℕ → ℕ → ℕ → Type 0 → Type 0
+Completes left reads reads_now writes writes_now ended = IfSome left (λ bytes. judge bytes ≡ None → (Rose reads reads_now → ⊥) → (Rose writes writes_now → ⊥) → ended)
+
+pub replay-complete : (left : Option (List ℕ)) (reads reads_now writes writes_now : ℕ) (ran : Ran) (status : Status) → status ≡ status_of ran
+    → Completes left reads reads_now writes writes_now ((ran ≡ rans.Done) ⊎ (ran ≡ rans.Memory)) → Completes left reads reads_now writes writes_now ((status ≡ statuses.Done) ⊎ (status ≡ statuses.NoMemory))
+replay-complete None reads reads_now writes writes_now ran status e h = tt
+replay-complete (Some bytes) reads reads_now writes writes_now ran status e h = λ judged read wrote. elim (h judged read wrote) [
+  | inl d ↦ inl (e ∙ ap status_of d)
+  | inr m ↦ inr (e ∙ ap status_of m)
+]
+
+pub memory-complete : (left : Option (List ℕ)) (reads reads_now writes writes_now : ℕ) (status : Status) → status ≡ statuses.NoMemory
+    → Completes left reads reads_now writes writes_now ((status ≡ statuses.Done) ⊎ (status ≡ statuses.NoMemory))
+memory-complete None reads reads_now writes writes_now status e = tt
+memory-complete (Some bytes) reads reads_now writes writes_now status e = λ judged read wrote. inr e
+
+-- a text that was put was said, in whole or in part
+pub says-by : (held now : Option (List ℕ)) (room room_now : Option ℕ) (faults faults_now : ℕ) (r : Result (Unit {0}) PutError) (text : List ℕ) → PutsAll held now r text → Counts faults faults_now (r ≡ Err put_errors.Write)
+    → LeavesRoom room room_now r (length text) → Says held now room faults faults_now text
+says-by held now room room_now faults faults_now (Ok done) text p c l = inl p
+says-by held now room room_now faults faults_now (Err put_errors.Write) text p c l = inr (record { count = p.0; put = p.1; cause = inl (c.counted refl) })
+says-by held now room room_now faults faults_now (Err put_errors.Memory) text p c l = inr (record { count = p.0; put = p.1; cause = inr l })
 
 -- where nothing was written that is a prefix
 pub kept-front : (left held now : Option (List ℕ)) → now ≡ held → IfSome left (λ bytes. IsFrontOf bytes held now)

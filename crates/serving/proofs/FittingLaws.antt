@@ -1,17 +1,15 @@
 -- Answers fit as the lines of a schedule do: whatever comes between them, and one after another.
 use std.Path.{fun_ext}
-use Rattle.std.proofs.Common.{◌≡◌, List, [], ◌∷◌, ◌++◌, false, Option, Some, None, refl, sym, ◌∙◌, ap, subst}
+use Rattle.std.proofs.Common.{◌≡◌, List, [], ◌∷◌, false, Option, Some, None, refl, sym, ◌∙◌, ap, subst}
 use Rattle.machine_driver.specs.Driver.{items_or_none, with_front}
-use Rattle.machine_driver.specs.Driver.Kind.{Event as AnEvent, Question as AQuestion}
+use Rattle.machine_driver.specs.Driver.Kind.{Event as AnEvent}
 use Rattle.tree_specs.specs.declared.event.Event.{Event}
 use Rattle.tree_specs.specs.declared.question.Ask.{Ask}
 use Rattle.tree_specs.specs.declared.question.Input.{Input}
 use Rattle.tree_specs.specs.declared.wants.Want.{Want}
-use Rattle.tree_specs.specs.Rules.Items.{Item}
-use Rattle.tree_specs.specs.Rules.Items.Item.{Told}
-use Rattle.tree_specs.specs.Texts.Runners.{Course as LineCourse, once_given, unless_stray}
+use Rattle.tree_specs.specs.Texts.Runners.{Course as LineCourse, once_given}
 use Rattle.tree_specs.specs.Texts.Schedule.{misfit, open_question}
-use Rattle.service_rules.specs.Watching.{Shown, item_of, items_of}
+use Rattle.service_rules.specs.Watching.{Shown, items_of}
 use Rattle.service_records.specs.Records.{AllFit}
 use Rattle.serving.specs.Machines.{Course, IsThere, SameCourse, TellsNext, line_course, question_shown}
 

@@ -1,23 +1,21 @@
 -- A service that was served from its beginning: its record is a schedule, and its story is orderly.
-use Rattle.std.proofs.Common.{◌≡◌, ◌<◌, ℕ, true, List, [], ◌∷◌, length, Option, Some, None, Result, Ok, Err, IfErr, OnOk, refl, sym, ◌∙◌, ap, subst}
-use Rattle.std.specs.List.{list_all}
+use Rattle.std.proofs.Common.{◌≡◌, ◌<◌, ℕ, List, Option, Some, None, Result, Ok, Err, IfErr, OnOk, refl, sym, ◌∙◌, ap, subst}
 use Rattle.std.specs.Option.{option_map}
-use Rattle.machine_driver.specs.Driver.{driven, items_or_none}
+use Rattle.machine_driver.specs.Driver.{items_or_none}
 use Rattle.outside.proofs.TellingLaws.{tells_same}
 use Rattle.std.proofs.KnownBytes.{Appends-nil}
 use Rattle.tree_specs.specs.declared.question.Input.{Input}
 use Rattle.tree_specs.specs.Rules.Items.{Item}
 use Rattle.tree_specs.specs.Texts.Lines.{lines_limit}
 use Rattle.tree_specs.specs.Texts.Schedule.{open_question}
-use Rattle.service_rules.specs.Knowledge.{nothing_known}
 use Rattle.service_rules.specs.Schedules.{service_runner}
-use Rattle.service_rules.specs.Service.{answers, machine, service_story, station}
-use Rattle.service_rules.specs.Stations.{StationView, still_to_come, unborn, watched_to_come}
+use Rattle.service_rules.specs.Service.{answers, service_story}
+use Rattle.service_rules.specs.Stations.{unborn, watched_to_come}
 use Rattle.service_rules.specs.Watching.{Shown, items_of, watched_story}
 use Rattle.service_rules.proofs.Orderliness.{service-orderly}
 use Rattle.service_rules.proofs.Showing.{items-to-come}
 use Rattle.service_rules.proofs.Steps.{first-to-come, first-watched}
-use Rattle.service_records.specs.Records.{AllFit, IsScheduleOf, has_ranges, is_short, record_text}
+use Rattle.service_records.specs.Records.{AllFit}
 use Rattle.service_records.proofs.Judging.{record-is-schedule}
 use Rattle.serving.specs.declared.stop.Stop.{Stop}
 use Rattle.serving.specs.declared.stop.Stop.TheVariants as stops

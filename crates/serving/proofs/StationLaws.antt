@@ -12,16 +12,14 @@ use Rattle.tree_specs.specs.declared.question.Ask.{Ask}
 use Rattle.tree_specs.specs.declared.question.Ask.TheVariants as ask
 use Rattle.tree_specs.specs.declared.question.Input.{Input}
 use Rattle.tree_specs.specs.declared.question.Input.TheVariants as inputs
-use Rattle.tree_specs.specs.Rules.Items.{Item, IsQuestion}
+use Rattle.tree_specs.specs.Rules.Items.{IsQuestion}
 use Rattle.tree_specs.specs.Machine.View.{question_of}
 use Rattle.tree_specs.specs.Tree.Pool.{Pool}
 use Rattle.tree_specs.specs.Calls.Refusals.{is_open}
 use Rattle.tree_specs.proofs.Tree.Numbered.{by_test}
 use Rattle.host_core.specs.Promises.{taken_by, taken_in}
-use Rattle.service_rules.specs.Exchanges.{AllSuit, Exchange, accepts_new, with_open, without_open}
-use Rattle.service_rules.specs.Exchanges.Exchange.{Answered, Closed}
 use Rattle.service_rules.specs.Service.{first_of_outside}
-use Rattle.service_rules.specs.Suiting.{none_open, service_exchanges}
+use Rattle.service_rules.specs.Suiting.{none_open}
 use Rattle.service_rules.specs.Stations.{IsAsked, NextLaw, StationView, TakesAnswer, asked_of, outside_question, question_now, still_to_come, strays_to_come, unborn, unless_own, watched_by, watched_to_come}
 use Rattle.service_rules.specs.Stations as stations
 use Rattle.service_rules.specs.Watching.{Shown, items_of}

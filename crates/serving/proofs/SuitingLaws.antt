@@ -1,6 +1,6 @@
 -- A machine that takes all that suits goes on taking it, event by event and answer by answer.
 use std.Path.{fun_ext}
-use Rattle.std.proofs.Common.{◌≡◌, ℕ, ◌==◌, ◌&&◌, ◌||◌, not, Bool, true, false, List, [], ◌∷◌, ◌++◌, Option, Some, None, refl, sym, ◌∙◌, ap, subst}
+use Rattle.std.proofs.Common.{◌≡◌, ℕ, ◌==◌, ◌&&◌, ◌||◌, not, Bool, true, false, List, [], ◌∷◌, Option, Some, None, refl, sym, ◌∙◌, ap, subst}
 use Rattle.std.specs.List.{list_all}
 use Rattle.machine_driver.specs.Driver.{items_or_none, with_front}
 use Rattle.machine_driver.specs.Driver.Kind.{Event as AnEvent, Question as AQuestion}
@@ -11,7 +11,7 @@ use Rattle.tree_specs.specs.declared.question.Input.{Input}
 use Rattle.tree_specs.specs.declared.question.Input.TheVariants as inputs
 use Rattle.tree_specs.specs.declared.wants.Want.{Want}
 use Rattle.tree_specs.proofs.Calls.Checks.{both-true}
-use Rattle.service_rules.specs.Exchanges.{Exchange, AllSuit, Suits, accepts_new, closing, exchanges, with_open, without_open}
+use Rattle.service_rules.specs.Exchanges.{Exchange, AllSuit, Suits, accepts_new, exchanges, with_open, without_open}
 use Rattle.service_rules.specs.Exchanges.Exchange.{Answered, Closed}
 use Rattle.service_rules.specs.ReadRanges.{reads_in_range, shows_in_range}
 use Rattle.service_rules.specs.Watching.{Shown}

@@ -1,5 +1,5 @@
 -- A line service that is served.
-use Rattle.std.specs.Prelude.{◌≡◌, ℕ, true, List, [], length, Option, Some}
+use Rattle.std.specs.Prelude.{◌≡◌, ℕ, true, List, length, Option, Some}
 use Rattle.std.specs.List.{list_all}
 use Rattle.std.specs.Io.KnownBytes.{Appends}
 use Rattle.tree_specs.specs.declared.moment.Moment.{Moment}
