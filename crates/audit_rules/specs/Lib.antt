@@ -1,0 +1,4 @@
+pub mod Rules
+pub mod Flaws
+pub mod Transcripts
+pub mod Examples
