@@ -1,2 +1,4 @@
 pub mod Breaking
 pub mod Visible
+pub mod Stories
+pub mod Whole
