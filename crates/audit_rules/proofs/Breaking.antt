@@ -208,6 +208,18 @@ all_hold false false false true e h = absurd cc
 all_hold false false false false true h = absurd cc
 all_hold false false false false false h = (refl, refl, refl, refl, refl)
 
+first_above : (a b c d e : Bool) → first_of a b c d e ≡ Some 0 → ⊥
+first_above true b c d e h = absurd cc
+first_above false true c d e h = absurd cc
+first_above false false true d e h = absurd cc
+first_above false false false true e h = absurd cc
+first_above false false false false true h = absurd cc
+first_above false false false false false h = absurd cc
+
+-- the rules begin with 1
+pub above_zero : (before : List Item) (item : Item) → broken before item ≡ Some 0 → ⊥
+above_zero before item h = first_above (is_judged_again before item) (is_freed_wrongly before item) (comes_after_the_end before item) (is_refused_for_nothing before item) (has_wrong_state before item) h
+
 -- an item that breaks no rule fits
 pub unbroken_fits : (before : List Item) (item : Item) → broken before item ≡ None → Fits before item
 unbroken_fits before item h =

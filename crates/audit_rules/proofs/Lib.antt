@@ -1,4 +1,8 @@
 pub mod Breaking
+pub mod Prefixes
 pub mod Visible
-pub mod Stories
+pub mod ItemLines
+pub mod Courses
+pub mod Telling
+pub mod Reaching
 pub mod Whole

@@ -1,4 +1,4 @@
-use Rattle.audit_rules.proofs.Stories.{prefix_orderly}
+use Rattle.audit_rules.proofs.Prefixes.{prefix_orderly}
 use Rattle.audit_rules.proofs.laws.a_prefix_is_orderly.Goals as goal
 
 pub returns : goal.returns
