@@ -53,7 +53,7 @@ goes_by (t ∷ ts) n course after rest le h = by_result (after_line course t) re
     by_result (Err rule) is g more = absurd cc
     by_result (Ok c) is g more = rw (within n (omega (arith, le)), is) (more c g ∙ ap (λ (m : ℕ). flaw_from m after rest) number)
 
-line_is : (line : cut.Line) → line.ended ≡ true → line ≡ ended_line line.text
+pub line_is : (line : cut.Line) → line.ended ≡ true → line ≡ ended_line line.text
 line_is line e = ap (λ (b : Bool). let l : cut.Line = record { text = line.text; ended = b } in l) e
 
 -- ---- no flaw

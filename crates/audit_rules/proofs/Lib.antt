@@ -6,3 +6,4 @@ pub mod Courses
 pub mod Telling
 pub mod Reaching
 pub mod Whole
+pub mod FirstFlaw

@@ -93,27 +93,27 @@ item_more items i l is =
     ap (λ (ls : List Line). texts (ls ++ l ∷ [])) (append-nil (lines_told items))
     ∙ ap (λ (ls : List Line). texts (lines_told items ++ ls)) (sym is) ∙ ap texts (sym (told_more items i) ∙ sym (append-nil (lines_told (items ++ i ∷ []))))
 
-told_line : (e : Event) → is_line (Tells e) ≡ true → lines_of (Told e) ≡ Tells e ∷ []
+pub told_line : (e : Event) → is_line (Tells e) ≡ true → lines_of (Told e) ≡ Tells e ∷ []
 told_line (events.Replied (replies.Rows rows)) l = absurd cc
 told_line (events.Replied (replies.No why)) l = refl
 told_line (events.Replied reply) l = refl
 told_line e l = refl
 
-asked_line : (q : Ask) → is_line (Asks q) ≡ true → lines_of (Asked q) ≡ Asks q ∷ []
+pub asked_line : (q : Ask) → is_line (Asks q) ≡ true → lines_of (Asked q) ≡ Asks q ∷ []
 asked_line asks.Quiet l = absurd cc
 asked_line (asks.Routine m) l = refl
 asked_line q l = refl
 
-told_sound : (e : Event) → is_line (Tells e) ≡ true → is_sound_line (Tells e) ≡ true → is_sound_item (Told e) ≡ true
+pub told_sound : (e : Event) → is_line (Tells e) ≡ true → is_sound_line (Tells e) ≡ true → is_sound_item (Told e) ≡ true
 told_sound (events.Replied (replies.Rows rows)) l h = absurd cc
 told_sound (events.Replied (replies.No why)) l h = h
 told_sound (events.Replied reply) l h = h
 told_sound e l h = h
 
-abbrev okay : Course → Result Course ℕ
+abbrev pub okay : Course → Result Course ℕ
 okay c = Ok c
 
-same_ok : (c d : Course) → okay c ≡ okay d → c ≡ d
+pub same_ok : (c d : Course) → okay c ≡ okay d → c ≡ d
 same_ok c d e = cc
 
 -- an item that was taken breaks no rule, and stands behind no rows
