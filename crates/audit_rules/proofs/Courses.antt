@@ -58,23 +58,23 @@ line_is line e = ap (λ (b : Bool). let l : cut.Line = record { text = line.text
 
 -- ---- no flaw
 
-pub record Ends (n : ℕ) (course : Course) (ls : List cut.Line) : Type 0 where
+pub record EndsWell (n : ℕ) (course : Course) (ls : List cut.Line) : Type 0 where
   pub front : List (List ℕ)
   pub whole : ls ≡ ended front
   pub within : n + length front ≤ suc lines_limit
   pub reached : runs course front ≡ Ok Over
 
-pub ends : (ls : List cut.Line) (n : ℕ) (course : Course) → n ≤ suc lines_limit → flaw_from n course ls ≡ None → Ends n course ls
-ends [] n course le h = at_end course h
+pub ends_well : (ls : List cut.Line) (n : ℕ) (course : Course) → n ≤ suc lines_limit → flaw_from n course ls ≡ None → EndsWell n course ls
+ends_well [] n course le h = at_end course h
   where
-    at_end : (c : Course) → flaw_at_end n c ≡ None → Ends n c []
+    at_end : (c : Course) → flaw_at_end n c ≡ None → EndsWell n c []
     at_end Over h = record { front = []; whole = refl; within = omega (arith, le); reached = refl }
     at_end _ h = absurd cc
-ends (line ∷ rest) n course le h = by_tests (ltb lines_limit n) line.ended refl refl (after_line course line.text) refl h (λ low c g. ends rest (n + 1) c (omega (arith, low)) g)
+ends_well (line ∷ rest) n course le h = by_tests (ltb lines_limit n) line.ended refl refl (after_line course line.text) refl h (λ low c g. ends_well rest (n + 1) c (omega (arith, low)) g)
   where
     by_tests : (late whole : Bool) → ltb lines_limit n ≡ late → line.ended ≡ whole → (r : Result Course ℕ) → after_line course line.text ≡ r
         → cond (late || not whole) (Some (n, 0)) (flaw_or n r (λ after. flaw_from (n + 1) after rest)) ≡ None
-        → (n ≤ lines_limit → (c : Course) → flaw_from (n + 1) c rest ≡ None → Ends (n + 1) c rest) → Ends n course (line ∷ rest)
+        → (n ≤ lines_limit → (c : Course) → flaw_from (n + 1) c rest ≡ None → EndsWell (n + 1) c rest) → EndsWell n course (line ∷ rest)
     by_tests true whole l e r is h more = absurd cc
     by_tests false false l e r is h more = absurd cc
     by_tests false true l e (Err rule) is h more = absurd cc

@@ -1,5 +1,5 @@
 -- The flaw that is found is the first one: the lines before it begin the transcript of an orderly story, and it is a flaw behind them.
-use Rattle.std.proofs.Common.{◌≡◌, ℕ, zero, suc, ◌+◌, ◌<◌, ◌≤◌, Bool, true, false, cond, eqb, ◌&&◌, List, [], ◌∷◌, ◌++◌, map, length, Option, Some, None, Result, Ok, Err, refl, sym, ap, subst, ◌∙◌, append_assoc, append-nil, length-append, arith, ◌⊎◌, inl, inr}
+use Rattle.std.proofs.Common.{◌≡◌, ℕ, zero, suc, ◌≤◌, Bool, true, false, cond, eqb, List, [], ◌∷◌, ◌++◌, map, length, Option, Some, None, Ok, Err, refl, sym, ap, subst, ◌∙◌, append_assoc, append-nil, length-append, arith, inl, inr}
 use Rattle.std.specs.Prelude.{flat_map}
 use Rattle.std.specs.List.{list_all}
 use Rattle.std.specs.Str.{bytes_eq}
@@ -9,7 +9,6 @@ use Rattle.std.proofs.lemmas.Bool.Decides.{nat_tests}
 use Rattle.step_machine.proofs.History.{EachFits-more}
 use Rattle.tree_specs.specs.declared.report.ReportRow.{ReportRow}
 use Rattle.tree_specs.specs.declared.reply.Reply.TheVariants as replies
-use Rattle.tree_specs.specs.declared.event.Event.{Event}
 use Rattle.tree_specs.specs.declared.event.Event.TheVariants as events
 use Rattle.tree_specs.specs.declared.question.Ask.{Ask}
 use Rattle.tree_specs.specs.declared.question.Ask.TheVariants as asks
@@ -21,7 +20,7 @@ use Rattle.tree_specs.specs.Texts.Text.{header, item_text}
 use Rattle.tree_specs.specs.Texts.Lines.{lines, lines_limit}
 use Rattle.tree_specs.specs.Texts.Lines as cut
 use Rattle.line_pieces.specs.Cuts.{ended_line}
-use Rattle.transcript_lines.specs.Lines.{Line, line_of, line_text, is_sound_line, is_line}
+use Rattle.transcript_lines.specs.Lines.{Line, line_of, line_text, is_sound_line}
 use Rattle.transcript_lines.specs.Lines.Line.{Row, Rows, Tells, Asks, Ends}
 use Rattle.transcript_lines.proofs.Spelling.{line_spelled}
 use Rattle.audit_rules.specs.Rules.{broken}
@@ -32,7 +31,7 @@ use Rattle.audit_rules.specs.Beginnings.{Begins, BeginTranscript, BreaksRule, Fl
 use Rattle.audit_rules.proofs.Breaking.{unbroken_fits}
 use Rattle.audit_rules.proofs.ItemLines.{texts, joined_lines, ended, headed, headed_cut, lines_of, lines_told, told_sound, told_joined, told_more, story_lines, transcript_cut, transcript_of}
 use Rattle.audit_rules.proofs.Courses.{go_on, runs, runs_append, line_is, StopsAt, Stops, stops_from}
-use Rattle.audit_rules.proofs.Telling.{judged, never_formless}
+use Rattle.audit_rules.proofs.Telling.{never_formless}
 use Rattle.audit_rules.proofs.Reaching.{IsTold, told_texts, Reaches, nothing_told, same_ok, sound_more, told_line, asked_line, told_sound as event_sound, headed_lines}
 use Rattle.audit_rules.proofs.Whole.{story_runs}
 
@@ -105,8 +104,11 @@ few_rows items rows ts is le = small (length rows) (omega (arith, ap length is, 
 
 -- lines that were taken begin the transcript of an orderly story
 taken_begin : (front : List (List ℕ)) (after : Course) → runs Header front ≡ Ok after → length front ≤ lines_limit → BeginsOrderly (ended front)
-taken_begin [] after h le = record { story = Asked asks.Quiet ∷ []; orderly = EachFits-more Fits [] (Asked asks.Quiet) nothing_told.orderly (unbroken_fits [] (Asked asks.Quiet) refl);
-  begun = begins_less (Asked asks.Quiet ∷ []) [] (ended_line transcript_header ∷ []) (begins_with [] asks.Quiet [] (line_text (Ends asks.Quiet) ∷ []) refl refl refl) }
+taken_begin [] after h le = record {
+  story = Asked asks.Quiet ∷ [];
+  orderly = EachFits-more Fits [] (Asked asks.Quiet) nothing_told.orderly (unbroken_fits [] (Asked asks.Quiet) refl);
+  begun = begins_less (Asked asks.Quiet ∷ []) [] (ended_line transcript_header ∷ []) (begins_with [] asks.Quiet [] (line_text (Ends asks.Quiet) ∷ []) refl refl refl);
+}
 taken_begin (t ∷ ts) after h le =
     let r = headed_lines t ts after h in
     subst (λ (x : List ℕ). BeginsOrderly (ended (x ∷ ts))) (sym r.header) (by_course after r.reaches)
@@ -142,10 +144,14 @@ missing_line (t ∷ ts) after n h e le =
     by_course Over e r = absurd cc
     by_course (Body items rows) e (told, is) =
         let begun = report_begins items rows told (few_rows items rows ts is (omega (arith, le))) in
-        let line : cut.Line = ended_line (line_text (Rows (length rows))) in
-        (line, ((items ++ report rows ∷ []) ++ Asked asks.Quiet ∷ [],
-        subst (λ (us : List (List ℕ)). Begins ((items ++ report rows ∷ []) ++ Asked asks.Quiet ∷ []) (ended (transcript_header ∷ us) ++ line ∷ [])) (sym is)
-        (subst (Begins ((items ++ report rows ∷ []) ++ Asked asks.Quiet ∷ [])) (map-append ended_line (transcript_header ∷ told_texts items rows) (line_text (Rows (length rows)) ∷ [])) begun)))
+        let line : cut.Line = ended_line (line_text (Rows (length rows))) in (
+          line,
+          (
+            (items ++ report rows ∷ []) ++ Asked asks.Quiet ∷ [],
+            subst (λ (us : List (List ℕ)). Begins ((items ++ report rows ∷ []) ++ Asked asks.Quiet ∷ []) (ended (transcript_header ∷ us) ++ line ∷ [])) (sym is)
+                (subst (Begins ((items ++ report rows ∷ []) ++ Asked asks.Quiet ∷ [])) (map-append ended_line (transcript_header ∷ told_texts items rows) (line_text (Rows (length rows)) ∷ [])) begun),
+          ),
+        )
 
 -- ---- no transcript has the line there
 
@@ -172,7 +178,7 @@ never_taken : (front : List (List ℕ)) (after : Course) (line : cut.Line) → r
 never_taken front after line reached h (items, b) =
     let p = story_parted front line items b in
     let formless_run : runs Header (headed (story_lines items)) ≡ Err 0 =
-        ap (runs Header) p.2 ∙ runs_append front (line.text ∷ p.1) Header ∙ ap (λ r. go_on r (λ c. runs c (line.text ∷ p.1))) reached ∙ ap (λ r. go_on r (λ c. runs c p.1)) h in
+    ap (runs Header) p.2 ∙ runs_append front (line.text ∷ p.1) Header ∙ ap (λ r. go_on r (λ c. runs c (line.text ∷ p.1))) reached ∙ ap (λ r. go_on r (λ c. runs c p.1)) h in
     never_formless items [] (sym (story_runs items b.text b.sound b.is_text) ∙ formless_run)
 
 -- ---- the line breaks a rule
@@ -277,7 +283,7 @@ breaks_rule (t ∷ ts) after line k reached e h =
         let b = line_breaks items rows line.text k told h in
         let same : ts ≡ told_texts items [] = is ∙ ap (told_texts items) b.0 in
         let whole : ended (transcript_header ∷ (told_texts items [] ++ line.text ∷ [])) ≡ ended (transcript_header ∷ told_texts items []) ++ line ∷ [] =
-            map-append ended_line (transcript_header ∷ told_texts items []) (line.text ∷ []) ∙ ap (λ (l : cut.Line). ended (transcript_header ∷ told_texts items []) ++ l ∷ []) (sym (line_is line e)) in
+        map-append ended_line (transcript_header ∷ told_texts items []) (line.text ∷ []) ∙ ap (λ (l : cut.Line). ended (transcript_header ∷ told_texts items []) ++ l ∷ []) (sym (line_is line e)) in
         subst (λ (us : List (List ℕ)). BreaksRule (ended (transcript_header ∷ us)) line (suc k)) (sym same)
         (record {
           told = items;
@@ -298,6 +304,7 @@ first_flaw bytes n k h = record {
   rest = s.rest;
   cut = s.whole;
   number = omega (arith, s.number, count);
+  few = omega (arith, few, count);
   story = begun.story;
   orderly = begun.orderly;
   begun = begun.begun;

@@ -1,5 +1,5 @@
 -- The lines of items: an item's text is its lines, a transcript is the header and the lines of its items.
-use Rattle.std.proofs.Common.{◌≡◌, ℕ, Bool, true, false, ◌&&◌, List, [], ◌∷◌, ◌++◌, map, length, Option, Some, None, refl, sym, ap, subst, ◌∙◌, codes, append_assoc, append-nil}
+use Rattle.std.proofs.Common.{◌≡◌, ℕ, true, List, [], ◌∷◌, ◌++◌, map, length, Option, Some, None, refl, sym, ap, ◌∙◌, codes, append_assoc, append-nil}
 use Rattle.std.specs.Prelude.{flat_map}
 use Rattle.std.specs.List.{list_all}
 use Rattle.std.specs.Option.{option_map}
@@ -8,14 +8,13 @@ use Rattle.std.proofs.lemmas.List.Concat.{flat_map-append}
 use Rattle.std.proofs.lemmas.List.Folds.{list_all-append}
 use Rattle.tree_specs.specs.declared.report.ReportRow.{ReportRow}
 use Rattle.tree_specs.specs.declared.reply.Reply.TheVariants as replies
-use Rattle.tree_specs.specs.declared.event.Event.{Event}
 use Rattle.tree_specs.specs.declared.event.Event.TheVariants as events
 use Rattle.tree_specs.specs.declared.question.Ask.{Ask}
 use Rattle.tree_specs.specs.declared.question.Ask.TheVariants as asks
 use Rattle.tree_specs.specs.Words.Ranges.{is_number}
 use Rattle.tree_specs.specs.Rules.Items.{Item}
 use Rattle.tree_specs.specs.Rules.Items.Item.{Told, Asked}
-use Rattle.tree_specs.specs.Texts.Text.{newline, numbers_text, row_text, rows_text, reply_text, event_text, answered_text, item_text, end_text, body_text, header, transcript}
+use Rattle.tree_specs.specs.Texts.Text.{newline, numbers_text, rows_text, reply_text, event_text, answered_text, item_text, end_text, body_text, header, transcript}
 use Rattle.tree_specs.specs.Texts.Lines.{lines}
 use Rattle.tree_specs.specs.Texts.Lines as cut
 use Rattle.text_forms.proofs.Bools.{and_true}

@@ -3,7 +3,6 @@ use Rattle.std.proofs.Common.{◌≡◌, ℕ, Bool, true, false, cond, eqb, ◌&
 use Rattle.std.specs.List.{list_all}
 use Rattle.std.proofs.lemmas.Bool.{eqb-true}
 use Rattle.std.proofs.lemmas.List.{map-append}
-use Rattle.std.proofs.lemmas.List.Folds.{list_all-append}
 use Rattle.std.proofs.lemmas.Slice.Eq.{bytes_eq-Decides}
 use Rattle.std.specs.Str.{bytes_eq}
 use Rattle.step_machine.proofs.History.{EachFits-more}
@@ -22,7 +21,7 @@ use Rattle.transcript_lines.specs.Lines.{Line, line_of, line_text, is_sound_line
 use Rattle.transcript_lines.specs.Lines.Line.{Row, Rows, Tells, Asks, Ends}
 use Rattle.transcript_lines.proofs.Spelling.{line_spelled}
 use Rattle.audit_rules.specs.Rules.{broken}
-use Rattle.audit_rules.specs.Flaws.{Course, formless, with_report, with_line, with_item, going_on, after_line, unless_broken, transcript_header}
+use Rattle.audit_rules.specs.Flaws.{Course, formless, with_line, with_item, going_on, after_line, unless_broken, transcript_header}
 use Rattle.audit_rules.specs.Flaws.Course.{Header, Body, Over}
 use Rattle.audit_rules.specs.Transcripts.{is_sound_item}
 use Rattle.audit_rules.proofs.Breaking.{unbroken_fits}
@@ -159,9 +158,10 @@ line_told done t items rows next (told, is) h = by_line (line_of t) refl h
     by_line None spelled h = absurd cc
     by_line (Some (Row r)) spelled h =
         let s = line_spelled t (Row r) spelled in
-        subst (Reaches (done ++ t ∷ [])) (same_ok (Body items (rows ++ r ∷ [])) next h)
-        (record { orderly = told.orderly; sound = told.sound; rows_sound = all_more (λ x. is_sound_line (Row x)) rows r told.rows_sound s.1 },
-        behind done t (lines_told items ++ map Row rows) (Row r) is s.0 ∙ rows_more items rows r)
+        subst (Reaches (done ++ t ∷ [])) (same_ok (Body items (rows ++ r ∷ [])) next h) (
+          record { orderly = told.orderly; sound = told.sound; rows_sound = all_more (λ x. is_sound_line (Row x)) rows r told.rows_sound s.1 },
+          behind done t (lines_told items ++ map Row rows) (Row r) is s.0 ∙ rows_more items rows r,
+        )
     by_line (Some (Rows k)) spelled h = ended_by k spelled (eqb k (length rows)) refl h
     by_line (Some (Tells e)) spelled h =
         let s = line_spelled t (Tells e) spelled in
@@ -173,9 +173,12 @@ line_told done t items rows next (told, is) h = by_line (line_of t) refl h
         let s = line_spelled t (Ends q) spelled in
         let taken = item_taken items rows (Asked q) Over next h in
         let none : done ≡ told_texts items [] = is ∙ ap (told_texts items) taken.no_rows in
-        subst (Reaches (done ++ t ∷ [])) taken.next_is
-        (items, q, record { told = record { orderly = told.orderly; sound = told.sound; rows_sound = refl }; fits = unbroken_fits items (Asked q) taken.fine; sound = s.1 },
-        behind done t (lines_told items ++ []) (Ends q) none s.0 ∙ ap (λ (ls : List Line). texts (ls ++ Ends q ∷ [])) (append-nil (lines_told items)))
+        subst (Reaches (done ++ t ∷ [])) taken.next_is (
+          items,
+          q,
+          record { told = record { orderly = told.orderly; sound = told.sound; rows_sound = refl }; fits = unbroken_fits items (Asked q) taken.fine; sound = s.1 },
+          behind done t (lines_told items ++ []) (Ends q) none s.0 ∙ ap (λ (ls : List Line). texts (ls ++ Ends q ∷ [])) (append-nil (lines_told items)),
+        )
 
 -- ---- lines one after another
 

@@ -1,5 +1,5 @@
 -- What the lines of a story make of a course: they stop at the first item that breaks a rule, and nowhere else.
-use Rattle.std.proofs.Common.{◌≡◌, ℕ, suc, Bool, true, false, cond, eqb, ◌&&◌, List, [], ◌∷◌, ◌++◌, map, length, Option, Some, None, Result, Ok, Err, refl, sym, ap, subst, ◌∙◌, append_assoc, append-nil, arith}
+use Rattle.std.proofs.Common.{◌≡◌, ℕ, true, eqb, List, [], ◌∷◌, ◌++◌, map, length, Option, Some, None, Result, Ok, Err, refl, sym, ap, subst, ◌∙◌, append_assoc, append-nil, arith}
 use Rattle.std.specs.List.{list_all}
 use Rattle.std.proofs.lemmas.List.{map-append}
 use Rattle.std.proofs.lemmas.Bool.Decides.{nat_tests}
@@ -15,12 +15,12 @@ use Rattle.tree_specs.specs.Rules.Items.Item.{Told, Asked}
 use Rattle.tree_specs.specs.Promises.Orderly.{Fits, Orderly}
 use Rattle.tree_specs.specs.Texts.Text.{body_text}
 use Rattle.text_forms.proofs.Bools.{and_true}
-use Rattle.transcript_lines.specs.Lines.{Line, line_text, is_sound_line, is_line, plain_ask}
+use Rattle.transcript_lines.specs.Lines.{line_text, is_sound_line, is_line, plain_ask}
 use Rattle.transcript_lines.specs.Lines.Line.{Row, Rows, Tells, Asks, Ends}
 use Rattle.transcript_lines.proofs.Spelling.{line_again}
 use Rattle.audit_rules.specs.Rules.{broken}
-use Rattle.audit_rules.specs.Flaws.{Course, going_on, unless_broken, after_line}
-use Rattle.audit_rules.specs.Flaws.Course.{Header, Body, Over}
+use Rattle.audit_rules.specs.Flaws.{Course, going_on, unless_broken}
+use Rattle.audit_rules.specs.Flaws.Course.{Body, Over}
 use Rattle.audit_rules.specs.Transcripts.{is_sound_item}
 use Rattle.audit_rules.proofs.Breaking.{above_zero}
 use Rattle.audit_rules.proofs.Visible.{shown, visible, visible_more, told_shown, asked_shown}

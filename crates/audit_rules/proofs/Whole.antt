@@ -1,26 +1,23 @@
 -- No line of some bytes has a flaw exactly where the bytes are the transcript of an orderly story.
-use Rattle.std.proofs.Common.{◌≡◌, ℕ, suc, ◌+◌, ◌≤◌, Bool, true, false, eqb, ◌&&◌, List, [], ◌∷◌, ◌++◌, length, Option, Some, None, Ok, refl, sym, ap, ◌∙◌, append_assoc, append-nil, arith}
+use Rattle.std.proofs.Common.{◌≡◌, ℕ, suc, ◌+◌, ◌≤◌, Bool, true, false, eqb, List, [], ◌∷◌, ◌++◌, length, Option, Some, None, Ok, refl, sym, ap, ◌∙◌, append_assoc, append-nil, arith}
 use Rattle.std.specs.List.{list_all, slice_split}
 use Rattle.std.specs.Option.{option_map}
 use Rattle.std.proofs.lemmas.List.{length-map}
 use Rattle.step_machine.proofs.History.{EachFits-more}
-use Rattle.tree_specs.specs.declared.question.Ask.{Ask}
 use Rattle.tree_specs.specs.Rules.Items.{Item}
 use Rattle.tree_specs.specs.Rules.Items.Item.{Asked}
-use Rattle.tree_specs.specs.Promises.Orderly.{Fits, Orderly}
+use Rattle.tree_specs.specs.Promises.Orderly.{Fits}
 use Rattle.tree_specs.specs.Texts.Text.{body_text, header, transcript}
 use Rattle.tree_specs.specs.Texts.Lines.{lines, lines_of_parts, lines_limit}
 use Rattle.tree_specs.specs.Texts.Lines as cut
 use Rattle.text_forms.proofs.Words.{joined_by, joined-parts}
 use Rattle.line_pieces.specs.Cuts.{ended_line}
-use Rattle.transcript_lines.specs.Lines.{Line}
-use Rattle.transcript_lines.specs.Lines.Line.{Ends}
 use Rattle.audit_rules.specs.Flaws.{flaw_from, flaw, transcript_header}
-use Rattle.audit_rules.specs.Flaws.Course.{Header, Body, Over}
+use Rattle.audit_rules.specs.Flaws.Course.{Header, Over}
 use Rattle.audit_rules.specs.Transcripts.{is_sound_item, IsOrderlyText}
 use Rattle.audit_rules.proofs.Visible.{visible}
-use Rattle.audit_rules.proofs.ItemLines.{texts, joined_lines, ended, headed, lines_told, story_lines, transcript_cut, transcript_of}
-use Rattle.audit_rules.proofs.Courses.{runs, goes_by, Ends as EndsWell, ends}
+use Rattle.audit_rules.proofs.ItemLines.{joined_lines, ended, headed, story_lines, transcript_cut, transcript_of}
+use Rattle.audit_rules.proofs.Courses.{runs, goes_by, EndsWell, ends_well}
 use Rattle.audit_rules.proofs.Telling.{judged, story_taken, orderly_judged}
 use Rattle.audit_rules.proofs.Reaching.{Reaches, sound_more, headed_lines}
 
@@ -61,7 +58,7 @@ unfolding flaw
 flawless_orderly bytes h = by_front e.front e.whole e.within e.reached
   where
     e : EndsWell 1 Header (lines bytes)
-    e = ends (lines bytes) 1 Header (omega arith) h
+    e = ends_well (lines bytes) 1 Header (omega arith) h
 
     by_story : (ts : List (List ℕ)) → lines bytes ≡ ended (transcript_header ∷ ts) → 1 + length (transcript_header ∷ ts) ≤ suc lines_limit → Reaches ts Over → IsOrderlyText bytes
     by_story ts whole within (items, q, all, is) = record {

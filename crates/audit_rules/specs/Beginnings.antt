@@ -44,6 +44,7 @@ pub record IsFirstFlaw (bytes : List ℕ) (n k : ℕ) : Type 0 where
   pub rest : List Line
   pub cut : lines bytes ≡ before ++ rest
   pub number : n ≡ suc (length before)
+  pub few : length before ≤ lines_limit
   pub story : List Item
   pub orderly : Orderly story
   pub begun : Begins story before

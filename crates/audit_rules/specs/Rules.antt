@@ -27,8 +27,8 @@ abbrev pub owned_by : Owner → List Obj
 owned_by Root = []
 owned_by (Of x) = x ∷ []
 
--- the objects that a routine runs for, that go to another owner, or are one, that are the target of a reference, or whose state
--- is told
+-- the objects that are to be there still: a routine runs for them, they go to another owner or are one, they are warned of, their
+-- state is told, they are the target of a reference, or their destructor is asked or has returned
 abbrev pub used_by : Item → List Obj
 used_by (Told (Fired what x routine)) = x ∷ []
 used_by (Told (Moved x owner)) = x ∷ owned_by owner
