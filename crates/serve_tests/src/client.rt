@@ -1,5 +1,5 @@
 //! A link over sockets with a client of its own, in the same thread.
-ghost use Rattle.std.specs.Prelude.{◌≡◌, ◌<◌, [], ◌∷◌, length, None, OnErr};
+ghost use Rattle.std.specs.Prelude.{◌≡◌, ◌<◌, ◌≤◌, [], ◌∷◌, length, None, OnErr};
 ghost use Rattle.outside.specs.Causes.{HasCause};
 ghost use Rattle.outside.specs.Descriptors.{SameOpen, Closes};
 ghost use Rattle.outside.specs.Links.{AreReady, AcceptsOpen, ReadsWithin, WritesWithin, has_failed};
@@ -53,7 +53,9 @@ impl<'a, R: Files + Net> WithClient<'a, R> {
     }
 
     /// Reads what the client was answered to the front of `answer`. Answers how many bytes came.
-    pub fn read_answer(&mut self, answer: &mut [u8]) -> usize {
+    pub fn read_answer(&mut self, answer: &mut [u8]) -> usize
+        ensures { result ≤ length answer.new }
+    {
         match &mut self.client {
             Some(client) => client.read(answer).unwrap_or(0),
             None => 0,

@@ -1,7 +1,7 @@
 //! Tests of the loop: a small machine over ends in memory.
 ghost use Rattle.std.specs.Prelude.{◌≡◌, ℕ, Bool, None, List};
 ghost use Rattle.tree_specs.specs.declared.question.Ask.TheVariants as ask;
-ghost use Rattle.serving.specs.Doorman.{listener, door_course, door_question, taken_by as taken_of};
+ghost use Rattle.serving.specs.Doorman.{listener, door_course, door_question, due_after as due_is};
 
 use super::*;
 use host_core::OfferFault;
@@ -35,9 +35,13 @@ impl Doorman {
     }
 }
 
-fn taken_by(input: &Input) -> Option<u32>
-    ensures { result ≡ taken_of input.now }
+// The descriptor that is to be closed after an answer.
+fn due_after(waits: bool, input: &Input) -> Option<u32>
+    ensures { result ≡ due_is waits input.now }
 {
+    if waits {
+        return None;
+    }
     match input {
         Input::Took(fd) => Some(*fd),
         _ => None,
@@ -82,13 +86,8 @@ impl Machine for Doorman {
         if self.due.is_some() {
             return Err(OfferFault::NotAsked);
         }
-        let taken = taken_by(&input);
-        if self.waits {
-            self.waits = false;
-        } else {
-            self.waits = true;
-            self.due = taken;
-        }
+        self.due = due_after(self.waits, &input);
+        self.waits = !self.waits;
         Ok(())
     }
 }

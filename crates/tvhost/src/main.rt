@@ -7,7 +7,7 @@ use host_app::{Status, host_main};
 use mio_link::MioLink;
 use outside::{StdSink, StdSource, WallClock};
 use shelf::{Adopt, Chain, Gentle, Routine, Shelf, Spawn, Stubborn};
-use std::alloc::{AllocError, Global};
+use std::alloc::AllocError;
 use std::io::ErrorKind;
 use std::process::ExitCode;
 use std::{env, io};
@@ -21,34 +21,32 @@ fn words(rt: &HostRuntime) -> io::Result<Vec<String>> {
     Ok(words.skip(1).collect::<Vec<String>>(rt.alloc())?)
 }
 
-/// The routines that an object may name, which have the numbers from 16 upwards.
-fn routines(alloc: Global) -> Result<Shelf, AllocError> {
+/// Does what the words say over the real ends: standard input, output and error, sockets, and the system's clock. The
+/// routines that an object may name have the numbers from 16 upwards, in the order in which they stand here.
+fn run(rt: &HostRuntime, words: &[String]) -> Result<Status, AllocError> {
+    let alloc = rt.alloc();
     let mut routines: Vec<Box<dyn Routine>> = Vec::new(alloc);
     routines.push(Box::new(alloc, Gentle)?)?;
     routines.push(Box::new(alloc, Stubborn { left: 3 })?)?;
     routines.push(Box::new(alloc, Chain)?)?;
     routines.push(Box::new(alloc, Adopt)?)?;
     routines.push(Box::new(alloc, Spawn)?)?;
-    Ok(Shelf { routines })
-}
-
-/// Does what the words say over the real ends: standard input, output and error, sockets, and the system's clock.
-fn run(rt: &HostRuntime, words: &[String], routines: &mut Shelf) -> Status {
+    let mut routines = Shelf { routines };
     let mut input = StdSource::new(rt.reader());
     let mut out = StdSink::new(io::writer(rt));
     let mut err = StdSink::new(rt.stderr());
-    let mut link = MioLink::new(rt, rt.alloc());
+    let mut link = MioLink::new(rt, alloc);
     let mut clock = WallClock::new(rt);
-    host_main(
-        rt.alloc(),
+    Ok(host_main(
+        alloc,
         words,
         &mut input,
         &mut out,
         &mut err,
         &mut link,
         &mut clock,
-        routines,
-    )
+        &mut routines,
+    ))
 }
 
 /// Says that there was no memory to begin with.
@@ -66,8 +64,8 @@ fn main(rt: HostRuntime) -> ExitCode {
             return ExitCode::from(NO_WORDS);
         }
     };
-    match routines(rt.alloc()) {
-        Ok(mut shelf) => ExitCode::from(run(&rt, &words, &mut shelf).number()),
+    match run(&rt, &words) {
+        Ok(status) => ExitCode::from(status.number()),
         Err(AllocError) => no_memory(&rt),
     }
 }
