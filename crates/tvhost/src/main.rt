@@ -8,7 +8,7 @@ use mio_link::MioLink;
 use outside::{StdSink, StdSource, WallClock};
 use shelf::{Adopt, Chain, Gentle, Routine, Shelf, Spawn, Stubborn};
 use std::alloc::AllocError;
-use std::io::ErrorKind;
+use std::io::{ErrorKind, StdinLock};
 use std::process::ExitCode;
 use std::{env, io};
 
@@ -16,9 +16,17 @@ use std::{env, io};
 const NO_WORDS: u8 = 8;
 
 /// The words after the program's name.
+// What this takes of the call stack is given up before the words are done: a replay is to do with 64 KiB.
+#[inline(never)]
 fn words(rt: &HostRuntime) -> io::Result<Vec<String>> {
     let words = env::args(rt)?;
     Ok(words.skip(1).collect::<Vec<String>>(rt.alloc())?)
+}
+
+/// Standard input. What it has read ahead stands on the heap, and not on the call stack.
+#[inline(never)]
+fn input(rt: &HostRuntime) -> Result<Box<StdSource<StdinLock>>, AllocError> {
+    Ok(Box::new(rt.alloc(), StdSource::new(rt.reader()))?)
 }
 
 /// Does what the words say over the real ends: standard input, output and error, sockets, and the system's clock. The
@@ -32,7 +40,7 @@ fn run(rt: &HostRuntime, words: &[String]) -> Result<Status, AllocError> {
     routines.push(Box::new(alloc, Adopt)?)?;
     routines.push(Box::new(alloc, Spawn)?)?;
     let mut routines = Shelf { routines };
-    let mut input = StdSource::new(rt.reader());
+    let mut input = input(rt)?;
     let mut out = StdSink::new(io::writer(rt));
     let mut err = StdSink::new(rt.stderr());
     let mut link = MioLink::new(rt, alloc);
@@ -40,7 +48,7 @@ fn run(rt: &HostRuntime, words: &[String]) -> Result<Status, AllocError> {
     Ok(host_main(
         alloc,
         words,
-        &mut input,
+        &mut *input,
         &mut out,
         &mut err,
         &mut link,
