@@ -1,7 +1,11 @@
 pub mod BuiltLine
+pub mod DefaultLaws
 pub mod LevelLaws
-pub mod LoadLaws
 pub mod NamedLaws
 pub mod NumberLaws
+pub mod PairLaws
+pub mod RangeLaws
+pub mod ReadLaws
 pub mod StopLaws
 pub mod TakenLaws
+pub mod TextLaws

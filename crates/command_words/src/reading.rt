@@ -1,12 +1,14 @@
 //! From words to a command.
-ghost use Rattle.std.specs.Prelude.{◌≡◌, ◌≢◌, ◌≤◌, ℕ, None, Ok, Some, IfErr, IfOk, false, map};
+ghost use Rattle.std.specs.Prelude.{◌≡◌, ◌≢◌, ◌≤◌, ◌<◌, ℕ, List, None, Ok, Some, IfErr, IfOk, false, length, map, option_map};
+ghost use Rattle.std.specs.Borrow.{Bor};
 ghost use Rattle.std.specs.String.{string_bytes};
 ghost use Rattle.clap.specs.Words.{FailsBy, app_of, fault_of, found_of, rows_of, kind_of, new_app, rule_of, subcommand_of, subcommand_rows_of};
 ghost use Rattle.clap.specs.declared.builder.command.Command.TheViews.{out-Command as fields_of};
-ghost use Rattle.command_words.specs.declared.command.TheConstants.{COUNT_LIMIT};
-ghost use Rattle.command_words.specs.CommandLine.{command_line, command_of, fields_in, load_app, named_command, number_in, required_rule, top_app};
+ghost use Rattle.command_words.specs.declared.command.TheConstants.{ANSWERS_LIMIT, COUNT_LIMIT};
+ghost use Rattle.command_words.specs.CommandLine.{asked_by, command_line, command_of, load_app, load_in, named_command, number_in, required_rule};
+ghost use Rattle.command_words.specs.CommandLine.{serve_app, serve_in, text_in, top_app};
 
-use crate::command::{COUNT_LIMIT, Command};
+use crate::command::{ANSWERS_LIMIT, COUNT_LIMIT, Command};
 use clap::builder::ValueParser;
 use clap::error::ErrorKind;
 use clap::{Arg, ArgMatches, Error, value_parser};
@@ -38,6 +40,32 @@ fn command<'a>(alloc: Global, name: &'a str, about: &'a str) -> clap::Command<'a
     ensures local { (fields_of result).has_globals ≡ false }
 {
     clap::Command::new(alloc, name).about(about)
+}
+
+/// The command `serve`.
+fn serve<'a>(alloc: Global) -> Result<clap::Command<'a>, AllocError>
+    ensures app { IfOk result (λ c. app_of c ≡ serve_app) }
+    ensures local { IfOk result (λ c. (fields_of c).has_globals ≡ false) }
+{
+    let path = required(
+        alloc,
+        "PATH",
+        "Where the socket is made",
+        ValueParser::NonEmptyString,
+    );
+    let answers = required(
+        alloc,
+        "ANSWERS",
+        "How many answers of the outside are served: 1 to 1000000000",
+        value_parser!(u32).range(1..=1_000_000_000),
+    );
+    command(
+        alloc,
+        "serve",
+        "Serves lines at a Unix socket, and writes the schedule that it served",
+    )
+    .arg(path)?
+    .arg(answers)
 }
 
 /// The command `load`.
@@ -91,8 +119,12 @@ fn command_line<'a>(alloc: Global) -> Result<clap::Command<'a>, AllocError>
         "replay",
         "Reads a schedule from standard input, and writes its transcript",
     );
+    let serve = serve(alloc)?;
     let load = load(alloc)?;
-    top(alloc)?.subcommand(replay)?.subcommand(load)
+    top(alloc)?
+        .subcommand(replay)?
+        .subcommand(serve)?
+        .subcommand(load)
 }
 
 /// What `clap` makes of the words.
@@ -103,34 +135,54 @@ fn parse<'a>(alloc: Global, words: &'a [String]) -> Result<ArgMatches<'a>, Error
     command_line(alloc)?.try_get_matches_from(words)
 }
 
-/// The value of an argument, where it is a number up to this one.
-fn number_in(matches: &ArgMatches, most: u32, name: &str) -> Option<u32>
-    ensures { result ≡ number_in most name.now (rows_of (found_of matches.now)) }
+/// The value of an argument, where it is a number from `least` to `most`.
+fn number_in(matches: &ArgMatches, least: u32, most: u32, name: &str) -> Option<u32>
+    ensures { result ≡ number_in least most name.now (rows_of (found_of matches.now)) }
 {
     match matches.get_one::<u32>(name) {
-        Some(n) if n <= most => Some(n),
+        Some(number) if (least..=most).contains(&number) => Some(number),
         _ => None,
     }
 }
 
-/// The number and the count of the command `load`.
-fn fields_in(matches: &ArgMatches) -> Option<Command>
-    ensures { result ≡ fields_in (rows_of (found_of matches.now)) }
+/// The value of an argument, where it isn't empty.
+fn text_in<'a>(matches: &ArgMatches<'a>, name: &str) -> Option<&'a str>
+    ensures { option_map (λ text. text.now) result ≡ text_in name.now (rows_of (found_of matches.now)) }
 {
-    let number = number_in(matches, u32::MAX, "NUMBER")?;
-    let count = number_in(matches, COUNT_LIMIT, "COUNT")?;
+    match matches.get_str(name) {
+        Some(text) if !text.is_empty() => Some(text),
+        _ => None,
+    }
+}
+
+/// The path and the answers of the command `serve`.
+fn serve_in<'a>(matches: &ArgMatches<'a>) -> Option<Command<'a>>
+    ensures { option_map asked_by result ≡ serve_in (rows_of (found_of matches.now)) }
+{
+    let path = text_in(matches, "PATH")?;
+    let answers = number_in(matches, 1, ANSWERS_LIMIT, "ANSWERS")?;
+    Some(Command::Serve { path, answers })
+}
+
+/// The number and the count of the command `load`.
+fn load_in<'a>(matches: &ArgMatches<'a>) -> Option<Command<'a>>
+    ensures { option_map asked_by result ≡ load_in (rows_of (found_of matches.now)) }
+{
+    let number = number_in(matches, 0, u32::MAX, "NUMBER")?;
+    let count = number_in(matches, 0, COUNT_LIMIT, "COUNT")?;
     Some(Command::Load { number, count })
 }
 
 /// The command that was met.
-fn command_met(matches: &ArgMatches) -> Option<Command>
-    ensures { result ≡ named_command (subcommand_rows_of matches.now) }
+fn command_met<'a>(matches: &ArgMatches<'a>) -> Option<Command<'a>>
+    ensures { option_map asked_by result ≡ named_command (subcommand_rows_of matches.now) }
 {
     let (name, fields) = matches.subcommand()?;
-    if name == "replay" {
-        return Some(Command::Replay);
+    match name {
+        "replay" => Some(Command::Replay),
+        "serve" => serve_in(fields),
+        _ => load_in(fields),
     }
-    fields_in(fields)
 }
 
 /// Reads the words that follow the program's name.
@@ -141,11 +193,14 @@ fn command_met(matches: &ArgMatches) -> Option<Command>
 /// where there was none.
 // What `clap` takes of the call stack, some 10 KiB, is given up before the command runs: a replay is to do with 64 KiB.
 #[inline(never)]
-pub fn read_words(alloc: Global, words: &[String]) -> Result<Command, WordsError>
+pub fn read_words<'a>(alloc: Global, words: &'a [String]) -> Result<Command<'a>, WordsError>
     // The command that was read has its count in its range.
     ensures few { (number count : ℕ) → result ≡ Ok (Command.Load number count) → count ≤ COUNT_LIMIT }
-    ensures read { IfOk result (λ c. command_of (map (λ w. string_bytes w) words.now) ≡ Some c) }
-    ensures refused { IfErr result (λ e. e ≢ WordsError.Memory → command_of (map (λ w. string_bytes w) words.now) ≡ None) }
+    // It has its answers in theirs, and a path that isn't empty.
+    ensures served { (path : Bor (List ℕ)) (answers : ℕ) → result ≡ Ok (Command.Serve path answers)
+        → (0 < length path.now) × (1 ≤ answers) × (answers ≤ ANSWERS_LIMIT) }
+    ensures read { IfOk result (λ c. command_of (map (λ w. string_bytes w) words.entry.now) ≡ Some (asked_by c)) }
+    ensures refused { IfErr result (λ e. e ≢ WordsError.Memory → command_of (map (λ w. string_bytes w) words.entry.now) ≡ None) }
 {
     match parse(alloc, words) {
         Ok(matches) => command_met(&matches).ok_or_else(|| WordsError::Usage(String::new(alloc))),

@@ -20,6 +20,7 @@ Usage: tvhost <COMMAND>
 
 Commands:
   replay  Reads a schedule from standard input, and writes its transcript
+  serve   Serves lines at a Unix socket, and writes the schedule that it served
   load    Replays a schedule made from a number, and writes a summary
   help    Print this message or the help of the given subcommand(s)
 
@@ -32,6 +33,19 @@ const UNKNOWN: &str = "error: unrecognized subcommand 'reply'
   tip: a similar subcommand exists: 'replay'
 
 Usage: tvhost <COMMAND>
+
+For more information, try '--help'.
+";
+
+const NO_ANSWERS: &str = "error: the following required arguments were not provided:
+  <ANSWERS>
+
+Usage: tvhost serve <PATH> <ANSWERS>
+
+For more information, try '--help'.
+";
+
+const ZERO_ANSWERS: &str = "error: invalid value '0' for '<ANSWERS>': 0 is not in 1..=1000000000
 
 For more information, try '--help'.
 ";
@@ -54,6 +68,9 @@ fn a_person_is_told_what_to_type(rt: HostRuntime) -> Result<(), Fail> {
     assert_eq!(rt; said(&rt, &[])?.as_str(), HELP);
     assert_eq!(rt; said(&rt, &["--help"])?.as_str(), HELP);
     assert_eq!(rt; said(&rt, &["reply"])?.as_str(), UNKNOWN);
+    assert_eq!(rt; said(&rt, &["serve", "p"])?.as_str(), NO_ANSWERS);
+    assert_eq!(rt; said(&rt, &["serve", "p", "0"])?.as_str(), ZERO_ANSWERS);
+    assert_eq!(rt; said(&rt, &["serve", "p", "3"])?.as_str(), "");
     assert_eq!(rt; said(&rt, &["load", "1"])?.as_str(), NO_COUNT);
     assert_eq!(rt; said(&rt, &["load", "1", "1000001"])?.as_str(), LARGE);
     assert_eq!(rt; said(&rt, &["replay"])?.as_str(), "");

@@ -1,6 +1,9 @@
 -- What the top call writes, by what its parts wrote.
-use Rattle.std.proofs.Common.{◌≡◌, ℕ, List, Option, Some, None, Result, Ok, Err, sym, subst}
+use Rattle.std.proofs.Common.{◌≡◌, ℕ, List, length, Option, Some, None, Result, Ok, Err, IfErr, OnOk, refl, sym, ◌∙◌, ap, subst, ◌⊎◌, inl, inr}
 use Rattle.std.specs.Prelude.{IfSome}
+use Rattle.service_rules.specs.Schedules.{judge}
+use Rattle.outside.specs.Causes.{Counts, Rose}
+use Rattle.outside.specs.Outputs.{LeavesRoom, PutsAll}
 use Rattle.outside.specs.declared.output.PutError.{PutError}
 use Rattle.outside.specs.declared.output.PutError.TheVariants as put_errors
 use Rattle.schedule_replay.specs.declared.ran.Ran.{Ran}
@@ -9,12 +12,17 @@ use Rattle.schedule_replay.specs.Runs.{Replays, IsFrontOf}
 use Rattle.schedule_replay.proofs.WholeLaws.{not-begun}
 use Rattle.load_schedule.specs.Loads.{PutsFiveLines}
 use Rattle.load_schedule.proofs.LoadLaws.{load-front}
-use Rattle.command_words.specs.declared.command.Command.{Command}
-use Rattle.command_words.specs.declared.command.Command.TheVariants.{Replay, Load}
+use Rattle.command_words.specs.CommandLine.{Asked}
+use Rattle.command_words.specs.CommandLine.Asked.{Load, Replay, Serve}
 use Rattle.host_app.specs.declared.status.Status.{Status}
 use Rattle.host_app.specs.declared.status.Status.TheVariants as statuses
-use Rattle.host_app.specs.Statuses.{status_of, status_of_load}
-use Rattle.host_app.specs.Mains.{Loads}
+use Rattle.serving.specs.declared.stop.Stop.{Stop}
+use Rattle.serving.specs.declared.stop.Stop.TheVariants as stops
+use Rattle.serving.specs.Stations.{Ends, ServesLines, StopsLines}
+use Rattle.serving.proofs.LinesLaws.{no_service}
+use Rattle.host_app.specs.Serves.{Serves}
+use Rattle.host_app.specs.Statuses.{status_of, status_of_load, status_of_service}
+use Rattle.host_app.specs.Mains.{Loads, Says}
 
 -- without memory a replay has written a prefix
 pub replay-front : (left read held now : Option (List ℕ)) (ran : Ran) (status : Status) → status ≡ status_of ran → IfSome left (λ bytes. Replays bytes read held now ran) → status ≡ statuses.NoMemory → IfSome left (λ bytes. IsFrontOf bytes held now)
@@ -27,6 +35,30 @@ replay-front (Some bytes) read held now rans.Done status e r m = absurd (other (
 replay-front (Some bytes) read held now rans.ReadFault status e r m = let g : statuses.ReadFault ≡ statuses.NoMemory = subst (λ (s : Status). s ≡ statuses.NoMemory) e m in cc
 replay-front (Some bytes) read held now (rans.BadSchedule line reason) status e r m = let g : statuses.BadSchedule line reason ≡ statuses.NoMemory = subst (λ (s : Status). s ≡ statuses.NoMemory) e m in cc
 replay-front (Some bytes) read held now rans.WriteFault status e r m = let g : statuses.WriteFault ≡ statuses.NoMemory = subst (λ (s : Status). s ≡ statuses.NoMemory) e m in cc
+
+-- a replay is done or without memory, where no line is rejected and no fault was counted
+abbrev Completes : Option (List ℕ) → ℕ → ℕ → ℕ → ℕ → Type 0 → Type 0
+Completes left reads reads_now writes writes_now ended = IfSome left (λ bytes. judge bytes ≡ None → (Rose reads reads_now → ⊥) → (Rose writes writes_now → ⊥) → ended)
+
+pub replay-complete : (left : Option (List ℕ)) (reads reads_now writes writes_now : ℕ) (ran : Ran) (status : Status) → status ≡ status_of ran
+    → Completes left reads reads_now writes writes_now ((ran ≡ rans.Done) ⊎ (ran ≡ rans.Memory)) → Completes left reads reads_now writes writes_now ((status ≡ statuses.Done) ⊎ (status ≡ statuses.NoMemory))
+replay-complete None reads reads_now writes writes_now ran status e h = tt
+replay-complete (Some bytes) reads reads_now writes writes_now ran status e h = λ judged read wrote. elim (h judged read wrote) [
+  | inl d ↦ inl (e ∙ ap status_of d)
+  | inr m ↦ inr (e ∙ ap status_of m)
+]
+
+pub memory-complete : (left : Option (List ℕ)) (reads reads_now writes writes_now : ℕ) (status : Status) → status ≡ statuses.NoMemory
+    → Completes left reads reads_now writes writes_now ((status ≡ statuses.Done) ⊎ (status ≡ statuses.NoMemory))
+memory-complete None reads reads_now writes writes_now status e = tt
+memory-complete (Some bytes) reads reads_now writes writes_now status e = λ judged read wrote. inr e
+
+-- a text that was put was said, in whole or in part
+pub says-by : (held now : Option (List ℕ)) (room room_now : Option ℕ) (faults faults_now : ℕ) (r : Result (Unit {0}) PutError) (text : List ℕ) → PutsAll held now r text → Counts faults faults_now (r ≡ Err put_errors.Write)
+    → LeavesRoom room room_now r (length text) → Says held now room faults faults_now text
+says-by held now room room_now faults faults_now (Ok done) text p c l = inl p
+says-by held now room room_now faults faults_now (Err put_errors.Write) text p c l = inr (record { count = p.0; put = p.1; cause = inl (c.counted refl) })
+says-by held now room room_now faults faults_now (Err put_errors.Memory) text p c l = inr (record { count = p.0; put = p.1; cause = inr l })
 
 -- where nothing was written that is a prefix
 pub kept-front : (left held now : Option (List ℕ)) → now ≡ held → IfSome left (λ bytes. IsFrontOf bytes held now)
@@ -47,8 +79,36 @@ loads-same m n k l held now status e h = let s = same-load m n k l e in subst (�
 pub not-load : (number count : ℕ) → Some Replay ≡ Some (Load number count) → ⊥
 not-load number count e = cc
 
-pub not-named : (number count : ℕ) (c : Option Command) → c ≡ None → c ≡ Some (Load number count) → ⊥
-not-named number count c e f = let g : None ≡ Some (Load number count) = subst (λ (d : Option Command). d ≡ Some (Load number count)) e f in cc
+pub not-named : (asked : Asked) (c : Option Asked) → c ≡ None → c ≡ Some asked → ⊥
+not-named asked c e f = let g : None ≡ Some asked = subst (λ (d : Option Asked). d ≡ Some asked) e f in cc
 
 pub load-none : (number count : ℕ) (held now : Option (List ℕ)) (status : Status) → now ≡ held → status ≡ statuses.NoMemory → Loads number count held now status
 load-none number count held now status e m = rw (m, e) (load-front number count held)
+
+-- ---- the service of lines
+
+pub not-serve : (path : List ℕ) (answers : ℕ) → Some Replay ≡ Some (Serve path answers) → ⊥
+not-serve path answers e = cc
+
+pub load-not-serve : (path : List ℕ) (answers number count : ℕ) → Some (Load number count) ≡ Some (Serve path answers) → ⊥
+load-not-serve path answers number count e = cc
+
+pub serves-by : (path : List ℕ) (answers : ℕ) (r : Result (Unit {0}) Stop) (status : Status) (before after : Ends) → status ≡ status_of_service r → OnOk r (ServesLines path answers before after)
+    → IfErr r (λ why. StopsLines path answers why before after) → Serves path answers status before after
+serves-by path answers (Ok done) status before after e ok err = rw e ok
+serves-by path answers (Err stops.Write) status before after e ok err = rw e err
+serves-by path answers (Err stops.Link) status before after e ok err = rw e err
+serves-by path answers (Err stops.Memory) status before after e ok err = rw e err
+
+-- of two names for the same words
+same-serve : (p q : List ℕ) (m n : ℕ) → Some (Serve p m) ≡ Some (Serve q n) → (p ≡ q) × (m ≡ n)
+same-serve p q m n e = (cc, cc)
+
+pub serves-same : (p q : List ℕ) (m n : ℕ) (status : Status) (before after : Ends) → Some (Serve p m) ≡ Some (Serve q n) → Serves p m status before after → Serves q n status before after
+serves-same p q m n status before after e h =
+    let s = same-serve p q m n e in
+    subst (λ (path : List ℕ). Serves path n status before after) s.0 (subst (λ (answers : ℕ). Serves p answers status before after) s.1 h)
+
+-- there was no memory to read the words
+pub serves-none : (path : List ℕ) (answers : ℕ) (status : Status) (e : Ends) → status ≡ statuses.NoMemory → Serves path answers status e e
+serves-none path answers status e is = rw is (no_service path answers e)

@@ -1,2 +1,3 @@
 pub mod Statuses
 pub mod Mains
+pub mod Serves

@@ -6,13 +6,12 @@ use Rattle.outside.specs.Causes.{Rose}
 use Rattle.outside.specs.Puts.{IsBeyond}
 use Rattle.outside.specs.declared.output.PutError.TheVariants as put_errors
 use Rattle.load_schedule.specs.Loads.{PutsFiveLines}
-use Rattle.command_words.specs.declared.command.Command.{Command}
-use Rattle.command_words.specs.CommandLine.{command_of}
+use Rattle.command_words.specs.CommandLine.{Asked, command_of}
 use Rattle.host_app.specs.declared.status.Status.{Status}
 use Rattle.host_app.specs.declared.status.Status.TheVariants as statuses
 
--- the command that the words name; none where they aren't taken
-abbrev pub names : {Z : Type 0} → List (String Z) → Option Command
+-- what the words ask for; none where they aren't taken
+abbrev pub names : {Z : Type 0} → List (String Z) → Option Asked
 names words = command_of (map (λ w. string_bytes w) words)
 
 -- How a load ends: with the five lines, or with a prefix of them after a fault or without memory, and in no other way.

@@ -7,6 +7,8 @@ use Rattle.schedule_replay.specs.declared.ran.Ran.{Ran}
 use Rattle.schedule_replay.specs.declared.ran.Ran.TheVariants as rans
 use Rattle.outside.specs.declared.output.PutError.{PutError}
 use Rattle.outside.specs.declared.output.PutError.TheVariants as put_errors
+use Rattle.serving.specs.declared.stop.Stop.{Stop}
+use Rattle.serving.specs.declared.stop.Stop.TheVariants as stops
 use Rattle.host_app.specs.declared.status.Status.{Status}
 use Rattle.host_app.specs.declared.status.Status.TheVariants as statuses
 
@@ -23,6 +25,13 @@ status_of_load (Ok done) = statuses.Done
 status_of_load (Err put_errors.Write) = statuses.WriteFault
 status_of_load (Err put_errors.Memory) = statuses.NoMemory
 
+-- how the service of lines ended
+abbrev pub status_of_service : Result (Unit {0}) Stop → Status
+status_of_service (Ok done) = statuses.Done
+status_of_service (Err stops.Write) = statuses.WriteFault
+status_of_service (Err stops.Link) = statuses.LinkFault
+status_of_service (Err stops.Memory) = statuses.NoMemory
+
 -- the number that the program ends with
 abbrev pub status_number : Status → ℕ
 status_number statuses.Done = 0
@@ -30,6 +39,7 @@ status_number statuses.ReadFault = 1
 status_number statuses.Usage = 2
 status_number (statuses.BadSchedule line reason) = 3
 status_number statuses.WriteFault = 4
+status_number statuses.LinkFault = 5
 status_number statuses.NoMemory = 6
 
 -- what follows the number of a refused line
@@ -49,4 +59,5 @@ status_text statuses.ReadFault = codes "read fault\n"
 status_text statuses.Usage = []
 status_text (statuses.BadSchedule line reason) = line_text line reason
 status_text statuses.WriteFault = codes "write fault\n"
+status_text statuses.LinkFault = codes "link fault\n"
 status_text statuses.NoMemory = codes "no memory\n"

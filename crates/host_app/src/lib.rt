@@ -9,4 +9,6 @@ pub use main_call::host_main;
 pub use status::Status;
 
 #[cfg(test)]
+mod serving_tests;
+#[cfg(test)]
 mod tests;

@@ -1,33 +1,41 @@
 //! `host_main`: what the program does, from its words to its status.
-ghost use Rattle.std.specs.Prelude.{◌≡◌, ◌≢◌, ◌≤◌, ◌⊎◌, ℕ, None, Some, IfSome};
+ghost use Rattle.std.specs.Prelude.{◌≡◌, ◌≢◌, ◌≤◌, ◌⊎◌, ℕ, List, None, Some, IfSome};
 ghost use Rattle.tree_specs.specs.declared.schedule.Reason.{Reason};
 ghost use Rattle.service_rules.specs.Schedules.{judge};
 ghost use Rattle.outside.specs.Causes.{Rose};
 ghost use Rattle.schedule_replay.specs.Runs.{IsDone, IsBad, IsCutShort, IsFrontOf};
 ghost use Rattle.schedule_replay.specs.Stories.{WritesStory};
 ghost use Rattle.host_app.specs.Statuses.{status_text};
+ghost use Rattle.serving.specs.Stations.{ends};
+ghost use Rattle.command_words.specs.CommandLine.Asked.{Replay, Serve, Load};
 ghost use Rattle.host_app.specs.Mains.{names, Loads, Says};
+ghost use Rattle.host_app.specs.Serves.{Serves};
 
 use crate::saying::say;
 use crate::status::Status;
 use command_words::{Command, WordsError, read_words};
 use load_schedule::load;
-use outside::{Sink, Source, put_all};
+use outside::{Clock, Link, Routines, Sink, Source, put_all};
 use schedule_replay::replay;
+use serving::serve_lines;
 use std::alloc::Global;
 
 /// Does what the words say, and says on `err` what the status means.
 ///
 /// The word `replay` replays the schedule that `input` gives into its transcript, which goes to `out`. The words
-/// `load NUMBER COUNT` make a schedule of COUNT calls from a number and put five lines on its transcript to `out`.
-/// Where words aren't taken the status is 2, and a person is told what to type. A fault of `err`, or running out of
-/// memory there, changes no status.
-pub fn host_main<S: Source, K: Sink, E: Sink>(
+/// `serve PATH ANSWERS` serve lines at a Unix socket until ANSWERS answers of the link, the clock and the routines were
+/// given, and put the schedule of these answers to `out`. The words `load NUMBER COUNT` make a schedule of COUNT calls
+/// from a number and put five lines on its transcript to `out`. Where words aren't taken the status is 2, and a person
+/// is told what to type. A fault of `err`, or running out of memory there, changes no status.
+pub fn host_main<S: Source, K: Sink, E: Sink, L: Link, C: Clock, R: Routines>(
     alloc: Global,
     words: &[String],
     input: &mut S,
     out: &mut K,
     err: &mut E,
+    link: &mut L,
+    clock: &mut C,
+    routines: &mut R,
 ) -> Status
     // The status is 2 exactly where the words aren't taken, unless memory ran out.
     ensures usage { result ≡ Status.Usage → names words.now ≡ None }
@@ -37,16 +45,16 @@ pub fn host_main<S: Source, K: Sink, E: Sink>(
 
     // Of the word `replay`: all is read, no line is rejected, and the transcript of the story over the schedule's
     // inputs has been written.
-    ensures done { names words.now ≡ Some Command.Replay → result ≡ Status.Done → IfSome (S.left input.old) (λ bytes. IsDone bytes (S.left input.new) (K.held out.old) (K.held out.new)) }
+    ensures done { names words.now ≡ Some Replay → result ≡ Status.Done → IfSome (S.left input.old) (λ bytes. IsDone bytes (S.left input.new) (K.held out.old) (K.held out.new)) }
 
     // The first rejected line, after the transcript of the lines before it. It comes of no other words.
     ensures bad { (line : ℕ) (reason : Reason) → result ≡ Status.BadSchedule line reason → IfSome (S.left input.old) (λ bytes. IsBad bytes line reason (K.held out.old) (K.held out.new)) }
-    ensures bad_words { (line : ℕ) (reason : Reason) → result ≡ Status.BadSchedule line reason → names words.now ≡ Some Command.Replay }
+    ensures bad_words { (line : ℕ) (reason : Reason) → result ≡ Status.BadSchedule line reason → names words.now ≡ Some Replay }
 
     // The story whose transcript that is, of a host or of a line service, as the first line says: a destructor accepts at
     // most once in it, every freed object with a destructor had it accept, nothing starts for a freed object, and to free
     // a live object is refused only while it is held, running or refused.
-    ensures story { names words.now ≡ Some Command.Replay → result ≡ Status.Done → IfSome (S.left input.old) (λ bytes. WritesStory bytes (K.held out.old) (K.held out.new)) }
+    ensures story { names words.now ≡ Some Replay → result ≡ Status.Done → IfSome (S.left input.old) (λ bytes. WritesStory bytes (K.held out.old) (K.held out.new)) }
     ensures story_before { (line : ℕ) (reason : Reason) → result ≡ Status.BadSchedule line reason → line ≢ 1 → IfSome (S.left input.old) (λ bytes. WritesStory bytes (K.held out.old) (K.held out.new)) }
 
     // After a fault, and when memory runs out, a prefix of the transcript has been written. A service that would give
@@ -54,23 +62,49 @@ pub fn host_main<S: Source, K: Sink, E: Sink>(
     ensures read_fault { result ≡ Status.ReadFault → Rose (S.faults input.old) (S.faults input.new) }
     ensures read_cut { result ≡ Status.ReadFault → IfSome (S.left input.old) (λ bytes. IsCutShort bytes (S.left input.new) (K.held out.old) (K.held out.new)) }
     ensures write_fault { result ≡ Status.WriteFault → Rose (K.faults out.old) (K.faults out.new) }
-    ensures write_front { names words.now ≡ Some Command.Replay → result ≡ Status.WriteFault → IfSome (S.left input.old) (λ bytes. IsFrontOf bytes (K.held out.old) (K.held out.new)) }
-    ensures memory_front { names words.now ≡ Some Command.Replay → result ≡ Status.NoMemory → IfSome (S.left input.old) (λ bytes. IsFrontOf bytes (K.held out.old) (K.held out.new)) }
+    ensures write_front { names words.now ≡ Some Replay → result ≡ Status.WriteFault → IfSome (S.left input.old) (λ bytes. IsFrontOf bytes (K.held out.old) (K.held out.new)) }
+    ensures memory_front { names words.now ≡ Some Replay → result ≡ Status.NoMemory → IfSome (S.left input.old) (λ bytes. IsFrontOf bytes (K.held out.old) (K.held out.new)) }
 
     // Where no line is to be rejected and no fault was counted, all is done, or memory ran out.
-    ensures complete { names words.now ≡ Some Command.Replay → IfSome (S.left input.old) (λ bytes. judge bytes ≡ None →
+    ensures complete { names words.now ≡ Some Replay → IfSome (S.left input.old) (λ bytes. judge bytes ≡ None →
         (Rose (S.faults input.old) (S.faults input.new) → ⊥) → (Rose (K.faults out.old) (K.faults out.new) → ⊥) → (result ≡ Status.Done) ⊎ (result ≡ Status.NoMemory)) }
+
+    // Of the words `serve PATH ANSWERS`: so many answers were given to the service, over this path, and are on record. The
+    // link, the clock and the routines were asked what its story over them prescribes, and the record is a schedule of
+    // which no line is refused and that has these inputs, so its replay writes the transcript of this very run. After a
+    // fault, and when memory runs out, it is so as far as it came. Nothing is read.
+    ensures serves { (path : List ℕ) (answers : ℕ) → names words.now ≡ Some (Serve path answers) → Serves path answers result
+        (ends (L.told link.old) (C.told clock.old) (R.told routines.old) (K.held out.old))
+        (ends (L.told link.new) (C.told clock.new) (R.told routines.new) (K.held out.new)) }
+    ensures serves_input { (path : List ℕ) (answers : ℕ) → names words.now ≡ Some (Serve path answers) → input.new ≡ input.old }
+    ensures serves_complete { (path : List ℕ) (answers : ℕ) → names words.now ≡ Some (Serve path answers) →
+        (Rose (L.faults link.old) (L.faults link.new) → ⊥) → (Rose (K.faults out.old) (K.faults out.new) → ⊥) → (result ≡ Status.Done) ⊎ (result ≡ Status.NoMemory) }
+    ensures link_fault { result ≡ Status.LinkFault → Rose (L.faults link.old) (L.faults link.new) }
+
+    // No other words have to do with the link, the clock or the routines.
+    ensures link_idle { ((path : List ℕ) (answers : ℕ) → names words.now ≢ Some (Serve path answers)) → link.new ≡ link.old }
+    ensures clock_idle { ((path : List ℕ) (answers : ℕ) → names words.now ≢ Some (Serve path answers)) → clock.new ≡ clock.old }
+    ensures routines_idle { ((path : List ℕ) (answers : ℕ) → names words.now ≢ Some (Serve path answers)) → routines.new ≡ routines.old }
 
     // Of the words `load NUMBER COUNT`: the five lines of the transcript of that schedule have been written, and after
     // a fault, and when memory runs out, a prefix of them. Nothing is read.
-    ensures loads { (number count : ℕ) → names words.now ≡ Some (Command.Load number count) → Loads number count (K.held out.old) (K.held out.new) result }
-    ensures loads_input { (number count : ℕ) → names words.now ≡ Some (Command.Load number count) → input.new ≡ input.old }
-    ensures loads_complete { (number count : ℕ) → names words.now ≡ Some (Command.Load number count) →
+    ensures loads { (number count : ℕ) → names words.now ≡ Some (Load number count) → Loads number count (K.held out.old) (K.held out.new) result }
+    ensures loads_input { (number count : ℕ) → names words.now ≡ Some (Load number count) → input.new ≡ input.old }
+    ensures loads_complete { (number count : ℕ) → names words.now ≡ Some (Load number count) →
         (Rose (K.faults out.old) (K.faults out.new) → ⊥) → (result ≡ Status.Done) ⊎ (result ≡ Status.NoMemory) }
     ensures said { result ≢ Status.Usage → Says (E.held err.old) (E.held err.new) (E.room err.old) (E.faults err.old) (E.faults err.new) (status_text result) }
 {
     let status = match read_words(alloc, words) {
         Ok(Command::Replay) => Status::from(replay(alloc, input, out)),
+        Ok(Command::Serve { path, answers }) => Status::from(serve_lines(
+            alloc,
+            path,
+            u64::from(answers),
+            link,
+            clock,
+            routines,
+            out,
+        )),
         Ok(Command::Load { number, count }) => Status::from(load(alloc, number, count, out)),
         Err(WordsError::Usage(text)) => {
             let _ = put_all(err, text.as_bytes());

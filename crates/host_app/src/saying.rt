@@ -44,6 +44,7 @@ pub fn say<E: Sink>(err: &mut E, status: Status) -> Result<(), PutError>
         Status::ReadFault => put_all(err, b"read fault\n"),
         Status::BadSchedule { line, reason } => say_line(err, line, reason),
         Status::WriteFault => put_all(err, b"write fault\n"),
+        Status::LinkFault => put_all(err, b"link fault\n"),
         Status::NoMemory => put_all(err, b"no memory\n"),
     }
 }

@@ -1,9 +1,10 @@
 //! How the program ends, and the number for it.
 ghost use Rattle.std.specs.Prelude.{◌≡◌};
-ghost use Rattle.host_app.specs.Statuses.{status_of, status_of_load, status_number};
+ghost use Rattle.host_app.specs.Statuses.{status_of, status_of_load, status_of_service, status_number};
 
 use outside::PutError;
 use schedule_replay::Ran;
+use serving::Stop;
 use tree_specs::Reason;
 
 /// How the program ended.
@@ -19,6 +20,8 @@ pub enum Status {
     BadSchedule { line: u64, reason: Reason },
     /// A put to the output failed. Status 4.
     WriteFault,
+    /// Listening or waiting at the socket failed. Status 5.
+    LinkFault,
     /// Memory ran out. Status 6.
     NoMemory,
 }
@@ -34,6 +37,7 @@ impl Status {
             Status::Usage => 2,
             Status::BadSchedule { .. } => 3,
             Status::WriteFault => 4,
+            Status::LinkFault => 5,
             Status::NoMemory => 6,
         }
     }
@@ -61,6 +65,19 @@ impl From<Result<(), PutError>> for Status {
             Ok(()) => Status::Done,
             Err(PutError::Write) => Status::WriteFault,
             Err(PutError::Memory) => Status::NoMemory,
+        }
+    }
+}
+
+impl From<Result<(), Stop>> for Status {
+    ghost from_gives = { λ served status. status ≡ status_of_service served };
+
+    fn from(served: Result<(), Stop>) -> Status {
+        match served {
+            Ok(()) => Status::Done,
+            Err(Stop::Write) => Status::WriteFault,
+            Err(Stop::Link) => Status::LinkFault,
+            Err(Stop::Memory) => Status::NoMemory,
         }
     }
 }

@@ -1,7 +1,10 @@
 ghost use Rattle.std.specs.Prelude.{◌≤◌};
 
 use super::*;
-use outside::{FineSink, FineSource, MemSink, MemSource, StdSink, StdSource};
+use outside::{
+    FineSink, FineSource, MemClock, MemLink, MemRoutines, MemSink, MemSource, Sink, Source,
+    StdSink, StdSource,
+};
 use std::process::Abort;
 use std::test::Fail;
 use tree_specs::Reason;
@@ -20,7 +23,7 @@ const REPORTED: &[u8] =
     b"tv transcript 1\nreply 1\nreply ok\nask hook 1 16 0 0 0 0\nrow 0 0 root 0 0 0 null_context\nrow 1 1 plain 8 0 0 a\nreply rows 2\nask hook 1 16 0 0 0 1\nreply 8\nask hook 1 16 0 0 0 2\naccepted 1\nfreed 1 16\nreply ok\nend quiet\n";
 
 // Two clients connect to the line service, and the first one sends a line, and a part of another.
-const CLIENTS: &[u8] =
+pub(crate) const CLIENTS: &[u8] =
     b"tv schedule 1 service\nready 0:1\ntook 1\nready 0:1\ntook 2\nready 1:1\ngot 31206e65772030203520610a3220736c65\nwrote 4\n";
 
 const CLIENTS_SERVED: &[u8] =
@@ -42,6 +45,29 @@ impl Answer {
             err: err.to_vec(rt.alloc())?,
         })
     }
+}
+
+// These words are run over an outside that nobody is to ask.
+fn run_alone<S: Source, K: Sink, E: Sink>(
+    rt: &HostRuntime,
+    words: &[String],
+    input: &mut S,
+    out: &mut K,
+    err: &mut E,
+) -> Result<Status, Fail> {
+    let mut link = MemLink::new(rt.alloc(), Vec::new(rt.alloc()), Vec::new(rt.alloc()), 0, 0)?;
+    let mut clock = MemClock::new(Vec::new(rt.alloc()));
+    let mut routines = MemRoutines::new(Vec::new(rt.alloc()));
+    Ok(host_main(
+        rt.alloc(),
+        words,
+        input,
+        out,
+        err,
+        &mut link,
+        &mut clock,
+        &mut routines,
+    ))
 }
 
 fn word(rt: &HostRuntime, text: &str) -> Result<Vec<String>, Fail> {
@@ -68,7 +94,7 @@ fn run_with(
     );
     let mut out = MemSink::new(rt.alloc(), most, 0, puts_fail.to_vec(rt.alloc())?)?;
     let mut err = FineSink::new(rt.alloc(), 0)?;
-    let status = host_main(rt.alloc(), &words, &mut input, &mut out, &mut err);
+    let status = run_alone(rt, &words, &mut input, &mut out, &mut err)?;
     Answer::new(rt, status, out.held(), err.held())
 }
 
@@ -176,7 +202,7 @@ fn run_words(rt: &HostRuntime, texts: &[&str]) -> Result<Answer, Fail> {
     let mut input = FineSource::new(CHILDREN.to_vec(rt.alloc())?);
     let mut out = FineSink::new(rt.alloc(), 0)?;
     let mut err = FineSink::new(rt.alloc(), 0)?;
-    let status = host_main(rt.alloc(), &words, &mut input, &mut out, &mut err);
+    let status = run_alone(rt, &words, &mut input, &mut out, &mut err)?;
     Answer::new(rt, status, out.held(), err.held())
 }
 
@@ -214,7 +240,7 @@ fn a_fault_of_what_is_said_changes_no_status(rt: HostRuntime) -> Result<(), Fail
     let mut input = MemSource::new(Vec::new(rt.alloc()), 4096, Vec::new(rt.alloc()));
     let mut out = FineSink::new(rt.alloc(), 0)?;
     let mut err = MemSink::new(rt.alloc(), 4, 0, [2u64].to_vec(rt.alloc())?)?;
-    let status = host_main(rt.alloc(), &words, &mut input, &mut out, &mut err);
+    let status = run_alone(&rt, &words, &mut input, &mut out, &mut err)?;
     assert_eq!(rt;
         status,
         Status::BadSchedule {
@@ -234,7 +260,7 @@ fn replays_from_a_reader_to_a_writer(rt: HostRuntime) -> Result<(), Fail> {
     let mut input = StdSource::new(CHILDREN);
     let mut out = StdSink::new(&mut written);
     let mut err = StdSink::new(&mut said);
-    let status = host_main(rt.alloc(), &words, &mut input, &mut out, &mut err);
+    let status = run_alone(&rt, &words, &mut input, &mut out, &mut err)?;
     assert_eq!(rt; status, Status::Done);
     assert_eq!(rt; written.as_slice(), CHILDREN_FREED);
     assert_eq!(rt; said.len(), 0);

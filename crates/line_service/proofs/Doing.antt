@@ -12,8 +12,6 @@ use Rattle.tree_specs.specs.declared.question.Act.TheVariants.{Do, Ret}
 use Rattle.tree_specs.specs.declared.question.Ask.{Ask}
 use Rattle.tree_specs.specs.declared.question.Ask.TheVariants as ask
 use Rattle.tree_specs.specs.declared.question.Input.TheVariants as input
-use Rattle.tree_specs.specs.Rules.Items.{Item}
-use Rattle.tree_specs.specs.Rules.Items.Item.{Told}
 use Rattle.tree_specs.specs.Tree.Pool.{Pool}
 use Rattle.tree_specs.specs.Words.Ranges.{is_sound_call}
 use Rattle.tree_specs.specs.Machine.View.{View, begin, question_of}
@@ -27,7 +25,7 @@ use Rattle.service_rules.specs.Knowledge.{Knowledge, with_run}
 use Rattle.service_rules.specs.Knowledge.Setup.{Complete}
 use Rattle.service_rules.specs.Routines.{does}
 use Rattle.service_rules.specs.Routines.Next.{Does, Returns}
-use Rattle.service_rules.specs.Service.{shows, told}
+use Rattle.service_rules.specs.Service.{shown_events, told}
 use Rattle.service_rules.specs.Stations.{IsAsked, Shows, StationView, outside_question, unborn}
 use Rattle.service_desk.specs.Desks.{heard_at, known}
 use Rattle.service_desk.specs.Fronts.{HasOrder, NamesItsOwn, OrderServed, StrangeServed, line_done, lines_of, ordering}
@@ -122,17 +120,17 @@ module _ (s : StationView) (d : Knowledge) (v : View) (due : Option Task) (n : �
 
   -- ---- an event is told
 
-  pub event-told : (e : Knowledge) (w : View) (next : Option Task) (event : Event) (r : Step) → may_be_due due (question_of v) ≡ true → NextLaw (Some event) v w → IsShownBy r (shows d event) → e ≡ told d event → next ≡ due
+  pub event-told : (e : Knowledge) (w : View) (next : Option Task) (event : Event) (r : Step) → may_be_due due (question_of v) ≡ true → NextLaw (Some event) v w → IsShownBy r (shown_events d event) → e ≡ told d event → next ≡ due
       → StepLaw (Ok r) s (seen e w next n)
   event-told e w next event r may law shown knows same_due =
       let none = not-due due (question_of v) may (ap is_own law.0) in
-      let told = subst (λ (z : StationView). Shows (shows d event) z (seen e w next n)) is (hears (seen d v due n) (seen e w next n) event none law knows (same_due ∙ none) refl) in
+      let told = subst (λ (z : StationView). Shows (shown_events d event) z (seen e w next n)) is (hears (seen d v due n) (seen e w next n) event none law knows (same_due ∙ none) refl) in
       each r shown told
     where
-      each : (r : Step) → IsShownBy r (shows d event) → Shows (shows d event) s (seen e w next n) → StepLaw (Ok r) s (seen e w next n)
-      each (step.Shown x) shown h = subst (λ (items : List Item). Shows items s (seen e w next n)) shown h
+      each : (r : Step) → IsShownBy r (shown_events d event) → Shows (shown_events d event) s (seen e w next n) → StepLaw (Ok r) s (seen e w next n)
+      each (step.Shown x) shown h = subst (λ (events : List Event). Shows events s (seen e w next n)) shown h
       each step.Asked shown h = absurd shown
-      each step.Silent shown h = subst (λ (items : List Item). Shows items s (seen e w next n)) shown h
+      each step.Silent shown h = subst (λ (events : List Event). Shows events s (seen e w next n)) shown h
 
 -- nothing is due after it
 pub told-may : (due next : Option Task) (v w : View) (event : Event) → may_be_due due (question_of v) ≡ true → NextLaw (Some event) v w → next ≡ due → may_be_due next (question_of w) ≡ true

@@ -34,11 +34,11 @@ use Rattle.service_rules.specs.Knowledge.{Knowledge, Setup, further, nothing_kno
 use Rattle.service_rules.specs.Knowledge.Setup.{Nothing, Unwatched, Complete}
 use Rattle.service_rules.specs.Routines.{Heard, comes_to, does, next_act}
 use Rattle.service_rules.specs.Routines.Next.{Does, Returns}
-use Rattle.service_rules.specs.Service.{after_act, answer_of, done_if, first_of_outside, heard, own, own_if, shows, told}
-use Rattle.service_rules.specs.Stations.{IsAsked, Shows, StationView, TakesAnswer, asked_of, more_answers, outside_question, still_to_come, strays_to_come, unborn, unless_own}
+use Rattle.service_rules.specs.Service.{after_act, answer_of, done_if, first_of_outside, heard, own, own_if, shown_events, told}
+use Rattle.service_rules.specs.Stations.{IsAsked, Shows, StationView, TakesAnswer, asked_of, more_answers, outside_question, question_now, still_to_come, strays_to_come, unborn, unless_own, watched_to_come}
 use Rattle.service_rules.proofs.Ending.{rest-ends}
 use Rattle.service_rules.proofs.Fitting.{rest-fits}
-use Rattle.service_rules.proofs.Steps.{Opens, Takes, Tells, at, at_due, due_done, due_found, due_same, event-next, not-own, opening, open-next, open-strays, own-next, passed-next, passed-strays, shows-nothing, shows-then, strays-next}
+use Rattle.service_rules.proofs.Steps.{Opens, Takes, Tells, at, at_due, due_done, due_found, due_same, event-next, not-own, opening, begins-with, open-next, open-strays, open-watched, own-next, passed-next, passed-strays, passed-watched, shows-nothing, shows-then, strays-next}
 use Rattle.service_desk.specs.Desks.{known}
 use Rattle.line_service.specs.declared.answerer.Answerer.TheVariants as answerer
 use Rattle.line_service.specs.Runs.{change_by, change_of, changed}
@@ -73,7 +73,7 @@ rebuilt s n e f =
     ap (λ (z : Option Task). let v : StationView = record { knows = s.knows; host = s.host; due = z; left = s.left } in v) e
     ∙ ap (λ (z : ℕ). at s.knows s.host z) f
 
-along : (us : List Item) (s s' t t' : StationView) → s ≡ s' → t ≡ t' → Shows us s' t' → Shows us s t
+along : (us : List Event) (s s' t t' : StationView) → s ≡ s' → t ≡ t' → Shows us s' t' → Shows us s t
 along us s s' t t' e f h = subst (λ (z : StationView). Shows us z t) (sym e) (subst (λ (z : StationView). Shows us s' z) (sym f) h)
 
 -- ---- what is due is done
@@ -121,9 +121,9 @@ turns s s' none complete asked waits g knows none' =
 
 -- ---- an event was told
 
-pub hears : (s s' : StationView) (e : Event) → s.due ≡ None → NextLaw (Some e) s.host s'.host → s'.knows ≡ told s.knows e → s'.due ≡ None → s'.left ≡ s.left → Shows (shows s.knows e) s s'
+pub hears : (s s' : StationView) (e : Event) → s.due ≡ None → NextLaw (Some e) s.host s'.host → s'.knows ≡ told s.knows e → s'.due ≡ None → s'.left ≡ s.left → Shows (shown_events s.knows e) s s'
 hears s s' e none next knows none' left =
-    along (shows s.knows e) s (at s.knows s.host s.left) s' (at (told s.knows e) s'.host s.left) (rebuilt s s.left none refl) (rebuilt s' s.left none' left ∙ ap (λ (z : Knowledge). at z s'.host s.left) knows)
+    along (shown_events s.knows e) s (at s.knows s.host s.left) s' (at (told s.knows e) s'.host s.left) (rebuilt s s.left none refl) (rebuilt s' s.left none' left ∙ ap (λ (z : Knowledge). at z s'.host s.left) knows)
     (event-next s.knows s.host s'.host s.left e (tells e s.host s'.host next))
 
 -- ---- the outside is asked
@@ -136,17 +136,19 @@ is-asked s q none asked waits =
       question = q;
       open_now = asked;
       last = open-next s.knows s.host s.left q b o.1;
+      watched_last = open-watched s.knows s.host s.left q b o.1;
+      begins = λ i is. begins-with s.knows s.host s.left q i is b o.1;
       fits = open-strays s.knows s.host s.left q b o.1 ∙ waits.fits;
     })
 
 -- ---- the service is set up
 
-set-up : (d d' : Knowledge) (v w : View) (n : ℕ) (c : Call) → SetsUp v c w → Waits v → own d (opening v ask.Quiet) ≡ Some (input.Call c, d') → ((r : Reply) → shows d' (Replied r) ≡ []) → Shows [] (at d v (suc n)) (at d' w n)
+set-up : (d d' : Knowledge) (v w : View) (n : ℕ) (c : Call) → SetsUp v c w → Waits v → own d (opening v ask.Quiet) ≡ Some (input.Call c, d') → ((r : Reply) → shown_events d' (Replied r) ≡ []) → Shows [] (at d v (suc n)) (at d' w n)
 set-up d d' v w n c up waits e hides =
     let b : View = up.done.between in
     shows-then [] [] (at d v (suc n)) (at d' b n) (at d' w n)
     (own-next d d' v b n ask.Quiet (input.Call c) (opens v waits ask.Quiet up.asked) e (takes v (input.Call c) b ask.Quiet up.asked up.done.taken))
-    (subst (λ (us : List Item). Shows us (at d' b n) (at d' w n)) (hides up.reply) (event-next d' b w n (Replied up.reply) (tells (Replied up.reply) b w up.done.told)))
+    (subst (λ (events : List Event). Shows events (at d' b n) (at d' w n)) (hides up.reply) (event-next d' b w n (Replied up.reply) (tells (Replied up.reply) b w up.done.told)))
 
 -- ---- an answer of the outside is passed on
 
@@ -188,6 +190,9 @@ passes s s' q i none asked waits taken left knows none' =
       goes_on = λ is.
           ap (λ (z : StationView). still_to_come z (i ∷ is)) now ∙ passed-next s.knows s.host s'.host s.left q i b o.1 t is
           ∙ ap (λ (z : StationView). with_front (Asked q ∷ []) (still_to_come z is)) (sym next);
+      watched = λ is.
+          ap (λ (z : StationView). watched_to_come z (i ∷ is)) now ∙ passed-watched s.knows s.host s'.host s.left q i b o.1 t is
+          ∙ ap (λ (z : StationView). with_front (question_now s q ∷ []) (watched_to_come z is)) (sym next);
       strays = λ is.
           ap (λ (z : StationView). strays_to_come z (i ∷ is)) now ∙ passed-strays s.knows s.host s'.host s.left q i b o.1 t is
           ∙ ap (λ (z : StationView). strays_to_come z is) (sym next);

@@ -1,14 +1,13 @@
 -- What the single steps of a station do.
 use Rattle.std.specs.Prelude.{◌≡◌, ℕ, suc, ◌+◌, Bool, true, false, nat_lt, List, [], ◌∷◌, Option, Some, None, Result, Ok, Err}
 use Rattle.tree_specs.specs.declared.call.Call.{Call}
+use Rattle.tree_specs.specs.declared.event.Event.{Event}
 use Rattle.tree_specs.specs.declared.memory.Memory.{Memory}
 use Rattle.tree_specs.specs.declared.question.Ask.{Ask}
 use Rattle.tree_specs.specs.declared.question.Ask.TheVariants as ask
 use Rattle.tree_specs.specs.declared.question.Input.{Input}
 use Rattle.tree_specs.specs.declared.reply.Reply.{Reply}
 use Rattle.tree_specs.specs.declared.object.Obj.{Obj}
-use Rattle.tree_specs.specs.Rules.Items.{Item}
-use Rattle.tree_specs.specs.Rules.Items.Item.{Told}
 use Rattle.tree_specs.specs.Tree.Pool.{Pool}
 use Rattle.tree_specs.specs.Machine.View.{View, question_of, strays_of}
 use Rattle.tree_stories.specs.Sights.{sights_of}
@@ -82,10 +81,10 @@ pub record StraysAt (v : View) (i : Input) : Type 0 where
   pub ends : (is : List Input) → sights_of v (i ∷ is) ≡ sights_of v []
 
 -- what is shown of an event
-abbrev pub IsShownBy : Step → List Item → Type 0
-IsShownBy (step.Shown e) items = items ≡ Told e ∷ []
-IsShownBy step.Asked items = ⊥
-IsShownBy step.Silent items = items ≡ []
+abbrev pub IsShownBy : Step → List Event → Type 0
+IsShownBy (step.Shown e) events = events ≡ e ∷ []
+IsShownBy step.Asked events = ⊥
+IsShownBy step.Silent events = events ≡ []
 
 -- a call that lines do
 abbrev pub IsServed : Order → Type 0
@@ -99,7 +98,7 @@ strange_in p s o = None
 
 -- one step: an event is shown, the outside is asked, or nothing of it is seen
 abbrev pub StepLaw : Result Step Memory → StationView → StationView → Type 0
-StepLaw (Ok (step.Shown e)) old new = Shows (Told e ∷ []) old new
+StepLaw (Ok (step.Shown e)) old new = Shows (e ∷ []) old new
 StepLaw (Ok step.Asked) old new = Shows [] old new × IsAsked new
 StepLaw (Ok step.Silent) old new = Shows [] old new
 StepLaw (Err m) old new = Shows [] old new

@@ -48,7 +48,7 @@ unfolding open_question
 told-question e None = refl
 told-question e (Some l) = question-told e l
 
-shows-event : (v w : StationView) (e : Event) → stations.Shows (Told e ∷ []) v w → Follows (event_text e) (station_standing v) (station_standing w)
+shows-event : (v w : StationView) (e : Event) → stations.Shows (e ∷ []) v w → Follows (event_text e) (station_standing v) (station_standing w)
 shows-event v w e h = record {
   tells = λ is. ap (λ (o : Option (List Item)). body_text (items_or_none o)) (h.story is) ∙ told-text e (still_to_come w is);
   open_after = λ is. ap (λ (o : Option (List Item)). open_question (items_or_none o)) (h.story is) ∙ told-question e (still_to_come w is);

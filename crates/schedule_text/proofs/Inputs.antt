@@ -31,7 +31,7 @@ use Rattle.schedule_text.proofs.Wants.{are_small, list_again, list_spelled, read
 -- ---- from an input to its line and back
 
 -- an input's line, without its LF
-abbrev line_of : Input → List ℕ
+abbrev pub line_of : Input → List ℕ
 line_of (inputs.Call c) = codes "call " ++ call_text c
 line_of (inputs.Act (acts.Do c)) = codes "act " ++ call_text c
 line_of (inputs.Act (acts.Ret value)) = codes "ret " ++ decimal value
@@ -44,7 +44,7 @@ line_of (inputs.Got bytes) = codes "got " ++ encode_lower bytes
 line_of inputs.End = codes "end"
 line_of (inputs.Wrote n) = codes "wrote " ++ decimal n
 
-input_text-line : (i : Input) → input_text i ≡ line_of i ++ newline
+pub input_text-line : (i : Input) → input_text i ≡ line_of i ++ newline
 unfolding input_text
 input_text-line (inputs.Call c) = sym (append_assoc (codes "call ") (call_text c) newline)
 input_text-line (inputs.Act (acts.Do c)) = sym (append_assoc (codes "act ") (call_text c) newline)
@@ -56,7 +56,7 @@ input_text-line (inputs.Got bytes) = sym (append_assoc (codes "got ") (encode_lo
 input_text-line (inputs.Wrote n) = sym (append_assoc (codes "wrote ") (decimal n) newline)
 input_text-line _ = refl
 
-input_again : (i : Input) → is_sound i ≡ true → input_has_bytes i ≡ true → input_of (line_of i) ≡ Some i
+pub input_again : (i : Input) → is_sound i ≡ true → input_has_bytes i ≡ true → input_of (line_of i) ≡ Some i
 unfolding input_of
 input_again (inputs.Call c) h has = rw (calls.call_again c h has) refl
 input_again (inputs.Act (acts.Do c)) h has = rw (calls.call_again c h has) refl

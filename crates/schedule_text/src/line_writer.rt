@@ -64,6 +64,8 @@ pub fn write_input(input: &Input, out: &mut Vec<u8>) -> Result<(), Memory>
     ensures written { Writes out.old.items out.new.items result (input_text input.now) }
     // The line, without its LF, is read back as the same input.
     ensures read_back { (line : List ℕ) → line ++ newline ≡ input_text input.now → input_of line ≡ Some input.now }
+    // What it carries are bytes, as its type says.
+    ensures bytes { IsTrue (input_has_bytes input.now) }
 {
     the_bytes_of_an_input_are_bytes(input);
     write_line(input, out)

@@ -27,7 +27,7 @@ use Rattle.service_rules.specs.declared.task.Kept.{Kept}
 use Rattle.service_rules.specs.declared.task.Notifying.{Notifying}
 use Rattle.service_rules.specs.declared.task.Notifying.TheVariants as notifying
 use Rattle.service_rules.specs.declared.task.Run.{Run}
-use Rattle.service_rules.specs.declared.task.Run.TheVariants.{Own, Outside}
+use Rattle.service_rules.specs.declared.task.Run.TheVariants.{Own}
 use Rattle.service_rules.specs.declared.task.Serving.{Serving}
 use Rattle.service_rules.specs.declared.task.Serving.TheVariants as serving
 use Rattle.service_rules.specs.declared.task.Task.{Task}

@@ -20,6 +20,7 @@ use Rattle.tree_specs.specs.Tree.Pool.{Pool}
 use Rattle.tree_specs.specs.Machine.Table.{table, step, taken, resume, doing, returning}
 use Rattle.tree_specs.specs.Machine.View.{View, strays_of}
 use Rattle.tree_specs.specs.Invariants.Consistent.{IsConsistent}
+use Rattle.tree_specs.proofs.Calls.Checks.{Heard, heard-leads}
 use Rattle.tree_stories.specs.Sights.{Opening, seen_table, sights_of}
 use Rattle.tree_stories.proofs.Outsides.{AsksOutside, LeadsOutside, IsAskedBy, IsOfNoCaller, outside-kept}
 use Rattle.tree_stories.proofs.Stories.{at, IsWhole, tale, tells}
@@ -50,7 +51,7 @@ next-fits m (Does c t d) = each (is_sound_call c) refl
     each false e = (_, refl)
     each true e = (doing (ask.Routine m) c, ap (λ (b : Bool). if b then Some (doing (ask.Routine m) c) else None) e)
 
-pub own-fits : (d : Knowledge) (o : Opening) (q : Ask) (a : Input × Knowledge) → own_of d o q ≡ Some a → IsTaken q a.0
+own-fits : (d : Knowledge) (o : Opening) (q : Ask) (a : Input × Knowledge) → own_of d o q ≡ Some a → IsTaken q a.0
 own-fits d o ask.Quiet a e = let e' : at_rest d ≡ a = cc in subst (λ (z : Input × Knowledge). IsTaken ask.Quiet z.0) e' (quiet-fits d.setup d)
 own-fits d o (ask.Routine m) a e = each (nat_lt m.routine first_of_outside) e
   where
@@ -60,10 +61,20 @@ own-fits d o (ask.Routine m) a e = each (nat_lt m.routine first_of_outside) e
 own-fits d o _ a e = cc
 
 -- and are given to callers alone
-pub own-asked : (d : Knowledge) (o : Opening) (q : Ask) (a : Input × Knowledge) → own_of d o q ≡ Some a → IsOfNoCaller q → ⊥
+own-asked : (d : Knowledge) (o : Opening) (q : Ask) (a : Input × Knowledge) → own_of d o q ≡ Some a → IsOfNoCaller q → ⊥
 own-asked d o ask.Quiet a e k = k
 own-asked d o (ask.Routine m) a e k = k
 own-asked d o _ a e k = cc
+
+-- so each is taken, and leads to a call or to the end of a routine's run
+pub own-taken : (d : Knowledge) (p : Pool) (q : Ask) (f : Frame) (r : Pool) → IsAskedBy (Asked q) f → (a : Input × Knowledge) → own_of d (record { ask = q; pool = p }) q ≡ Some a → (g : Frame) × (taken f r a.0 ≡ Some g) × Heard q g
+own-taken d p q f r by a e = elim by [ inl is ↦ (fits.0, ap (λ (z : Frame). taken z r a.0) is ∙ fits.1, heard-leads q a.0 fits.0 fits.1) | inr other ↦ absurd (own-asked d opening q a e other) ]
+  where
+    opening : Opening
+    opening = record { ask = q; pool = p }
+
+    fits : (g : Frame) × (takes q (doing q) returning a.0 ≡ Some g)
+    fits = own-fits d opening q a e
 
 -- ---- so nothing doesn't fit
 
@@ -82,7 +93,7 @@ strays-by v (Do.Emit x f p) fs h e d = λ is. event-strays v x f p is h e ∙ ap
 strays-by v (Do.Wait x f p) fs h e d = λ i g t is. question-strays v x f g p i is h e t ∙ ap (λ (z : List Frame). strays g z p is) d
 
 takes-own : (p : Pool) (q : Ask) (f : Frame) (r : Pool) → IsAskedBy (Asked q) f → TakesOwn seen_table station IsWhole tale K strays (record { item = Asked q; before = p }) f r
-takes-own p q f r by d o own kind e = elim by [ inl is ↦ (fits.0, ap (λ (z : Frame). taken z r own.0) is ∙ fits.1) | inr other ↦ absurd (own-asked d opening q own e' other) ]
+takes-own p q f r by d o a kind e = (y.0, y.1)
   where
     opening : Opening
     opening = record { ask = q; pool = p }
@@ -90,11 +101,8 @@ takes-own p q f r by d o own kind e = elim by [ inl is ↦ (fits.0, ap (λ (z : 
     same : opening ≡ o
     same = cc
 
-    e' : own_of d opening q ≡ Some own
-    e' = ap (λ (z : Opening). own_of d z z.ask) same ∙ e
-
-    fits : (g : Frame) × (takes q (doing q) returning own.0 ≡ Some g)
-    fits = own-fits d opening q own e'
+    y : (g : Frame) × (taken f r a.0 ≡ Some g) × Heard q g
+    y = own-taken d p q f r by a (ap (λ (z : Opening). own_of d z z.ask) same ∙ e)
 
 keeps-by : (v : View) (m : Move Frame Answer Pool Item) (fs : List Frame) → LeadsOutside m fs → KeepsBy seen_table station IsWhole tale K strays (seen_move v.pool m) fs
 keeps-by v (Do.Done a p) [] o = tt

@@ -1,18 +1,16 @@
 -- Where the answers fit and none of them is an act, bytes go out as they were said.
-use std.Path.{fun_ext}
-use Rattle.std.proofs.Common.{◌≡◌, ℕ, suc, ◌≤◌, ◌&&◌, Bool, true, false, length, List, [], ◌∷◌, Option, Some, None, refl, sym, ◌∙◌, ap, subst, inl, inr, arith}
+use Rattle.std.proofs.Common.{◌≡◌, ℕ, suc, ◌≤◌, ◌&&◌, Bool, true, false, length, List, [], ◌∷◌, Option, Some, None, refl, sym, ◌∙◌, ap, inl, inr, arith}
 use Rattle.std.specs.List.{list_all}
-use Rattle.machine_driver.specs.Driver.{Story, Kind, filled}
+use Rattle.machine_driver.specs.Driver.{Kind, filled}
 use Rattle.machine_driver.specs.Driver.Kind.{Event as AnEvent, Question as AQuestion}
 use Rattle.machine_driver.specs.Watched.{after, after_item, after_question, after_last, after_answer, logged_own}
 use Rattle.machine_driver.proofs.Logging.{filled-logged, after-logged}
 use Rattle.tree_specs.specs.declared.event.Event.{Event}
 use Rattle.tree_specs.specs.declared.question.Input.{Input}
 use Rattle.tree_specs.specs.Machine.View.{begin, strays_of}
-use Rattle.tree_specs.proofs.Rules.StoryLaws.{begin-whole, story-strays}
-use Rattle.tree_stories.specs.Sights.{Sight, Opening, seen_table, sights_of}
-use Rattle.tree_stories.proofs.Seeing.{begin-seen}
-use Rattle.tree_stories.proofs.Stories.{IsWhole, tale, tells}
+use Rattle.tree_specs.proofs.Rules.StoryLaws.{story-strays}
+use Rattle.tree_specs.proofs.Calls.Checks.{both-true}
+use Rattle.tree_stories.specs.Sights.{Sight, Opening}
 use Rattle.service_rules.specs.declared.task.Kept.{Kept}
 use Rattle.service_rules.specs.Knowledge.{Connection, Knowledge, nothing_known}
 use Rattle.service_rules.specs.Service.{station, machine, answers, own}
@@ -20,15 +18,11 @@ use Rattle.service_rules.specs.Sent.{Ledger, nothing_sent, ledger, with_ledger, 
 use Rattle.service_rules.specs.Fair.{fairness, with_fairness, all_fair}
 use Rattle.service_rules.specs.Fitting.{FittingBytesGoOut}
 use Rattle.service_rules.proofs.Attending.{Attended}
-use Rattle.service_rules.proofs.Recorded.{ConcludedSo, recorded}
 use Rattle.service_rules.proofs.Sending.{begins, fair-go-out}
+use Rattle.service_rules.proofs.Tracing.{begin-traced, concluded}
 use Rattle.service_rules.proofs.Straying.{Known, K, C, mildness, with_mildness, mild-kept}
 
 -- ---- none of them is an act
-
-both : (a b : Bool) → (a && b) ≡ true → (a ≡ true) × (b ≡ true)
-both true b e = (refl, e)
-both false b e = cc
 
 abbrev Mild : (Known → List Input → Known) → Type 0
 Mild go = (w : Known) (is : List Input) → list_all is_no_act is ≡ true → w.1 ≡ true → (go w is).1 ≡ true
@@ -43,7 +37,7 @@ module _ (go : Known → List Input → Known) (ih : Mild go) (q : Opening) wher
   question-mild (i ∷ is) w n b = each (own w.0.0.0 q)
     where
       first : (is_no_act i ≡ true) × (list_all is_no_act is ≡ true)
-      first = both (is_no_act i) (list_all is_no_act is) n
+      first = both-true (is_no_act i) (list_all is_no_act is) n
 
       still : (w.1 && is_no_act i) ≡ true
       still = let x : w.1 ≡ true = b in let y : is_no_act i ≡ true = first.0 in rw (x, y) refl
@@ -82,24 +76,14 @@ begins-attended = record {
     unkept : (k : Kept) → None ≡ Some k → ⊥
     unkept k h = cc
 
-same-story : sights_of (begin 1) ≡ machine
-same-story = let one : 1 ≤ 1 = omega arith in fun_ext (λ (is : List Input). begin-seen 1 is one)
-
-some-fair : (s : Story Input Sight) (is js : List Input) (o : Option (List Input)) → o ≡ Some js → ConcludedSo seen_table with_mildness K C [] first-known s is o → C js (after with_mildness (s js) first-known is)
-some-fair s is js None e c = cc
-some-fair s is js (Some ks) e c = let e' : ks ≡ js = cc in subst (λ (z : List Input). C z (after with_mildness (s z) first-known is)) e' c
-
 pub fitting-go-out : FittingBytesGoOut
 fitting-go-out is js acts e strays =
     let n : ℕ = suc (answers (length is)) in
     let one : 1 ≤ 1 = omega arith in
-    let c = recorded seen_table with_mildness K C IsWhole tale tells mild-kept n [] first-known (begin 1).innermost [] (begin 1).pool is (begin-whole 1 one) (begin-whole 1 one, tt, (λ more. refl), λ b. (refl, begins-attended)) in
     let f : filled with_mildness n first-known machine is ≡ Some js =
     filled-logged mildness with_fairness n ((nothing_known, nothing_sent), true) true machine is ∙ filled-logged fairness with_ledger n (nothing_known, nothing_sent) true machine is ∙ filled-logged ledger station n nothing_known nothing_sent machine is ∙ e in
-    let f' : filled with_mildness n first-known (sights_of (begin 1)) is ≡ Some js = ap (λ (s : Story Input Sight). filled with_mildness n first-known s is) same-story ∙ f in
-    let g : C js (after with_mildness (sights_of (begin 1) js) first-known is) = some-fair (sights_of (begin 1)) is js (filled with_mildness n first-known (sights_of (begin 1)) is) f' c in
-    let g' : C js (after with_mildness (machine js) first-known is) = subst (λ (s : Story Input Sight). C js (after with_mildness (s js) first-known is)) same-story g in
+    let g : C js (after with_mildness (machine js) first-known is) = concluded with_mildness K C mild-kept n first-known is js (begin-traced, λ b. (refl, begins-attended)) f in
     let fits : strays_of (begin 1) js ≡ false = story-strays 1 js one ∙ strays in
     let mild : (after with_mildness (machine js) first-known is).1 ≡ true = all-mild (machine js) first-known is acts refl in
-    let fair : all_fair is js ≡ true = ap (λ (w : (Knowledge × Ledger) × Bool). w.1) (sym (after-logged mildness with_fairness (machine js) ((nothing_known, nothing_sent), true) true is)) ∙ g' fits mild in
+    let fair : all_fair is js ≡ true = ap (λ (w : (Knowledge × Ledger) × Bool). w.1) (sym (after-logged mildness with_fairness (machine js) ((nothing_known, nothing_sent), true) true is)) ∙ g fits mild in
     fair-go-out is js e fair

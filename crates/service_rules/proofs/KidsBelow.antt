@@ -125,7 +125,7 @@ call-kids q (Works c errand x) p k below = change-kids c p k below
 -- ---- all works
 
 pub work-next : (p : Pool) (m : Step) → LeadsWork p m → p.next ≤ (pool_after m).next
-work-next p (Do.Done a q) l = omega (arith, l)
+work-next p (Do.Done a q) l = let i : q.next ≡ p.next = l.0 in omega (arith, i)
 work-next p (Do.Go g q) l = let i : q.next ≡ p.next = l.1 in omega (arith, i)
 work-next p (Do.Emit e g q) l = let i : q.next ≡ p.next = l.2 in omega (arith, i)
 work-next p (Do.Wait e g q) l = let i : q.next ≡ p.next = l.1 in omega (arith, i)

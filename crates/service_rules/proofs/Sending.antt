@@ -1,6 +1,5 @@
 -- Where the answers of the outside are fair, bytes go out as they were said.
-use std.Path.{fun_ext}
-use Rattle.std.proofs.Common.{◌≡◌, ℕ, suc, ◌≤◌, ◌&&◌, Bool, true, false, length, List, [], ◌∷◌, ◌++◌, Option, Some, None, refl, sym, ◌∙◌, ap, subst, inl, inr, arith}
+use Rattle.std.proofs.Common.{◌≡◌, ℕ, suc, ◌≤◌, ◌&&◌, Bool, true, length, List, [], ◌∷◌, ◌++◌, Option, Some, None, refl, sym, ◌∙◌, ap, subst, arith}
 use Rattle.std.proofs.lemmas.Slice.Eq.{bytes_eq-Decides}
 use Rattle.step_machine.specs.Machine.{Move}
 use Rattle.step_machine.specs.Machine.{Move as Do}
@@ -12,8 +11,6 @@ use Rattle.machine_driver.proofs.Kept.{TakenOr, OwnKeeps, StepKeeps, IsKept}
 use Rattle.machine_driver.proofs.Logging.{filled-logged, after-logged}
 use Rattle.machine_driver.proofs.Together.{Concluded, together}
 use Rattle.tree_specs.specs.declared.frame.Frame.{Frame}
-use Rattle.tree_specs.specs.declared.frame.Frame.TheVariants as frame
-use Rattle.tree_specs.specs.declared.frame.CallFrame.TheVariants.{Asking}
 use Rattle.tree_specs.specs.declared.frame.Answer.{Answer}
 use Rattle.tree_specs.specs.declared.question.Ask.{Ask}
 use Rattle.tree_specs.specs.declared.question.Input.{Input}
@@ -26,19 +23,20 @@ use Rattle.tree_specs.specs.Invariants.Consistent.{IsConsistent, IsStacked}
 use Rattle.tree_specs.specs.Invariants.Sound.{Rests}
 use Rattle.tree_specs.proofs.Rules.Rest.{whole-kept, no-end}
 use Rattle.tree_specs.proofs.Rules.StoryLaws.{begin-whole}
+use Rattle.tree_specs.proofs.Calls.Checks.{both-true}
 use Rattle.tree_stories.specs.Sights.{Sight, Opening, seen_table, sights_of}
-use Rattle.tree_stories.proofs.Seeing.{begin-seen}
 use Rattle.tree_stories.proofs.Stories.{at, IsWhole, tale, tells}
-use Rattle.tree_stories.proofs.Outsides.{AsksOutside, LeadsOutside, IsAskedBy, outside-kept}
+use Rattle.tree_stories.proofs.Outsides.{AsksOutside, LeadsOutside, outside-kept}
 use Rattle.service_rules.specs.Knowledge.{Knowledge, nothing_known}
 use Rattle.service_rules.specs.Service.{station, machine, answers, own, heard}
 use Rattle.service_rules.specs.Sent.{Ledger, nothing_sent, ledger, with_ledger, answered, says, goes_out, all_go_out}
 use Rattle.service_rules.specs.Fair.{fairness, with_fairness, is_fair, FairBytesGoOut}
 use Rattle.service_rules.proofs.Entries.{all-found}
-use Rattle.service_rules.proofs.Fitting.{own-fits, own-asked}
+use Rattle.service_rules.proofs.Fitting.{own-taken}
 use Rattle.service_rules.proofs.Owing.{Goes, whole, Keeps, Fine}
 use Rattle.service_rules.proofs.Leading.{GivenFine, AskedFine, LeadsFine}
 use Rattle.service_rules.proofs.Stepping.{step-fine}
+use Rattle.service_rules.proofs.Tracing.{same-story}
 
 abbrev Known : Type 0
 Known = (Knowledge × Ledger) × Bool
@@ -56,10 +54,6 @@ all-go d l next k g = all-found (λ e. goes_out l e) d.connections k.sorted (λ 
 
 abbrev WholeAfter : Move Frame Answer Pool Item → List Frame → Type 0
 WholeAfter m fs = Leads table (λ g gs q j. IsConsistent (record { innermost = g; below = gs; pool = q })) m fs 1
-
-both-true : (a b : Bool) → (a && b) ≡ true → (a ≡ true) × (b ≡ true)
-both-true true b h = (refl, h)
-both-true false b h = cc
 
 question-keeps : (us : List Item) (w : Known) (q : Ask) (g : Frame) (gs : List Frame) (p r : Pool) (again : List Item → Known → Type 0)
     → WholeAfter (Do.Wait (Asked q) g r) gs → LeadsOutside (Do.Wait (Asked q) g r) gs → (w.1 ≡ true → AskedFine w.0.0 w.0.1 p q g gs r)
@@ -88,22 +82,11 @@ question-keeps us w q g gs p r again whole leads fine None e = (
           let c = both-true w.1 (is_fair w.0.0 q j) b in
           subst (GivenFine (heard w.0.0 q j) (answered w.0.1 q j) r.next gs) t ((fine c.0).outside e j c.1),
     )
-question-keeps us w q g gs p r again whole leads fine (Some a) e = by leads.0
-  where
-    shown : List Item
-    shown = us ++ with_fairness.asks w (record { ask = q; pool = p })
-
-    later : Known
-    later = ((a.1, says w.0.1 w.0.0 (Some a)), w.1)
-
-    fitting : g ≡ frame.Call (Asking q) → TakenOr seen_table with_fairness K C shown later gs r (taken g r a.0)
-    fitting is =
-        let f = own-fits w.0.0 (record { ask = q; pool = p }) q a e in
-        let t : taken g r a.0 ≡ Some f.0 = ap (λ (z : Frame). taken z r a.0) is ∙ f.1 in
-        subst (TakenOr seen_table with_fairness K C shown later gs r) (sym t) (whole a.0 f.0 t, leads.1 a.0 f.0 t, λ b. (fine b).itself a e f.0 t)
-
-    by : IsAskedBy (Asked q) g → TakenOr seen_table with_fairness K C shown later gs r (taken g r a.0)
-    by k = elim k [ inl is ↦ fitting is | inr other ↦ absurd (own-asked w.0.0 (record { ask = q; pool = p }) q a e other) ]
+question-keeps us w q g gs p r again whole leads fine (Some a) e =
+    let y = own-taken w.0.0 p q g r leads.0 a e in
+    let shown : List Item = us ++ with_fairness.asks w (record { ask = q; pool = p }) in
+    let later : Known = ((a.1, says w.0.1 w.0.0 (Some a)), w.1) in
+    subst (TakenOr seen_table with_fairness K C shown later gs r) (sym y.1) (whole a.0 y.0 y.1, leads.1 a.0 y.0 y.1, λ b. (fine b).itself a e y.0 y.1)
 
 step-keeps : (us : List Item) (w : Known) (f : Frame) (fs : List Frame) (p : Pool) → K us w f fs p → StepKeeps seen_table with_fairness K C (λ vs v. K vs v f fs p) us w (seen_move p (step f p)) fs
 step-keeps us w f fs p k = each (step f p) fs refl refl (whole-kept (at f fs p) 1 k.0) (outside-kept f fs p k.0 k.1) (λ b. let h = k.2 b in step-fine w.0.0 w.0.1 p f fs k.1 h.keeps h.stands)
@@ -134,9 +117,6 @@ begins next = record {
   keeps = record { sorted = tt; distinct = λ k j c e h. cc; young = λ k h. refl; unsaid = λ k h. refl };
   stands = ((λ k c h. cc), tt);
 }
-
-same-story : sights_of (begin 1) ≡ machine
-same-story = let one : 1 ≤ 1 = omega arith in fun_ext (λ (is : List Input). begin-seen 1 is one)
 
 some-go : (s : Story Input Sight) (is js : List Input) (o : Option (List Input)) → o ≡ Some js → Concluded seen_table with_fairness IsWhole tale K C tells kept [] first-known s is o → C [] (after with_fairness (s js) first-known is)
 some-go s is js None e c = cc

@@ -73,7 +73,7 @@ module _ (d : Knowledge) (l : Ledger) (p : Pool) where
 
   works-fine : (m : Step) (fs : List Frame) → LeadsWork p m → Keeps d l p.next → Rest d l p.next fs → LeadsFine d l p m fs
   works-fine (Do.Done a q) [] leads k w = tt
-  works-fine (Do.Done a q) (g ∷ gs) leads k w = done-fine d l q.next g gs a (keeps-at d q leads k) w
+  works-fine (Do.Done a q) (g ∷ gs) leads k w = done-fine d l q.next g gs a (keeps-at d q leads.0 k) w
   works-fine (Do.Go g q) fs leads k w = record { keeps = keeps-at d q leads.1 k; stands = work-stands d q.next g fs leads.0 w }
   works-fine (Do.Emit (Told e) g q) fs leads k w =
       let f = fewer-told d e in record {

@@ -7,8 +7,12 @@ pub mod Routines
 pub mod Service
 pub mod Examples
 pub mod Leaving
+pub mod Watching
+pub mod Exchanges
 pub mod Schedules
 pub mod Sent
 pub mod Fair
 pub mod Fitting
+pub mod Suiting
 pub mod Stations
+pub mod ReadRanges

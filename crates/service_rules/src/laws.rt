@@ -14,8 +14,10 @@ ghost use Rattle.tree_specs.specs.Texts.Schedule.{mode_of, pools};
 ghost use Rattle.service_rules.specs.Knowledge.{nothing_known};
 ghost use Rattle.service_rules.specs.Fair.{FairBytesGoOut};
 ghost use Rattle.service_rules.specs.Fitting.{FittingBytesGoOut};
+ghost use Rattle.service_rules.specs.ReadRanges.{ReadsAreInRange};
 ghost use Rattle.service_rules.specs.Schedules.{runner_of};
 ghost use Rattle.service_rules.specs.Service.{inputs_behind, machine, service_story, station};
+ghost use Rattle.service_rules.specs.Suiting.{SuitingAnswersFit};
 
 /// What the outside sees is orderly, whatever it answers.
 pub fn every_service_story_is_orderly()
@@ -52,4 +54,14 @@ pub fn bytes_go_out_where_answers_are_fair()
 /// its descriptor has taken, and what is unsent, are the lines that were said to its session.
 pub fn bytes_go_out_where_answers_fit()
     ensures { FittingBytesGoOut }
+{}
+
+/// Where each answer suits its question, and no descriptor is accepted that is open, the service takes them all.
+pub fn answers_that_suit_are_taken()
+    ensures { SuitingAnswersFit }
+{}
+
+/// Each read that the outside is asked for is of 1 to 65,536 bytes, whatever it answers.
+pub fn reads_are_in_range()
+    ensures { ReadsAreInRange }
 {}

@@ -1,9 +1,8 @@
 -- Runs of the serving loop, one after another.
-use Rattle.std.proofs.Common.{◌≡◌, ◌==◌, ◌≤◌, inl, inr, ℕ, ◌+◌, Bool, true, false, ◌||◌, Ok, subst, List, [], ◌∷◌, ◌++◌, Option, Some, None, refl, sym, ap, ◌∙◌, length-append, arith}
+use Rattle.std.proofs.Common.{◌≡◌, ℕ, ◌+◌, false, true, subst, List, [], ◌∷◌, ◌++◌, Option, Some, None, refl, sym, ap, ◌∙◌, length-append, arith}
 use Rattle.std.specs.Prelude.{flat_map}
 use Rattle.std.proofs.lemmas.List.{append-nil, append_assoc}
-use Rattle.std.proofs.lemmas.Bool.{cases_eq}
-use Rattle.std.proofs.lemmas.Bool.Decides.{nat_tests}
+use Rattle.std.proofs.lemmas.List.Folds.{list_all-append}
 use Rattle.std.specs.Io.KnownBytes.{Appends}
 use Rattle.std.proofs.KnownBytes.{Appends-trans, Appends-nil}
 use Rattle.tree_specs.specs.declared.event.Event.{Event}
@@ -12,28 +11,52 @@ use Rattle.tree_specs.specs.declared.moment.Moment.{Moment}
 use Rattle.tree_specs.specs.declared.question.Ask.{Ask}
 use Rattle.tree_specs.specs.declared.question.Act.{Act}
 use Rattle.tree_specs.specs.declared.question.Input.{Input}
-use Rattle.tree_specs.specs.declared.question.Input.TheVariants as inputs
 use Rattle.tree_specs.specs.declared.wants.Want.{Want}
-use Rattle.tree_specs.specs.Rules.Items.Item.{Asked}
 use Rattle.tree_specs.specs.Texts.Text.{input_text}
 use Rattle.outside.specs.declared.sink.Done.TheVariants as ends
 use Rattle.outside.specs.LinkCalls.{LinkCall}
 use Rattle.outside.specs.LinkCalls.LinkCall.{Listen}
 use Rattle.outside.specs.Tellings.{Tells}
 use Rattle.outside.proofs.TellingLaws.{tells_same, tells_then}
-use Rattle.serving.specs.Exchanges.{exchanges, closing, link_answer, clock_answer, routine_answer, link_part, clock_part, routine_part}
-use Rattle.serving.specs.Exchanges.Exchange.{Answered}
-use Rattle.serving.specs.Machines.{Course, TellsNext, Asks, SameCourse, OpenAfter, OpenTaken}
-use Rattle.serving.specs.Serving.{Scene, Serves, Shows, Agrees, OpenClosed, OpensBy, IsServed, record_header}
+use Rattle.machine_driver.specs.Driver.{with_front}
+use Rattle.machine_driver.specs.Driver.Kind.{Event as AnEvent}
+use Rattle.machine_driver.proofs.Driving.{front-front, front-none}
+use Rattle.service_rules.specs.Exchanges.{Exchange, Suits, closing, exchanges}
+use Rattle.service_rules.specs.Exchanges.Exchange.{Answered}
+use Rattle.service_rules.specs.Watching.{Shown}
+use Rattle.service_records.specs.Records.{AllFit, has_ranges, record_header}
+use Rattle.serving.specs.Exchanges.{exchanges_in, link_answer, clock_answer, routine_answer, link_part, clock_part, routine_part}
+use Rattle.serving.specs.Machines.{Asks, Course, SameCourse, Takes, TellsNext, line_course, question_shown}
+use Rattle.serving.specs.Serving.{Scene, Serves, Shows, IsServed}
+use Rattle.serving.proofs.FittingLaws.{answer_fits, event_fits, same_fits}
 
 pub flat-both : {A B : Type 0} (f : A → List B) (xs ys : List A) → flat_map f (xs ++ ys) ≡ flat_map f xs ++ flat_map f ys
 flat-both f [] ys = refl
 flat-both f (x ∷ xs) ys = rw (flat-both f xs ys) (sym (append_assoc (f x) (flat_map f xs) (flat_map f ys)))
 
+-- ---- a story that may not be there
+
+-- the first exchanges of a story
+pub event_first : (e : Event) (story : Option (List Shown)) (is : List Input) → exchanges_in (with_front (AnEvent e ∷ []) story) is ≡ with_front (closing e) (exchanges_in story is)
+event_first e None is = refl
+event_first e (Some shown) is = refl
+
+pub answer_first : (q : Ask) (wanted : List Want) (i : Input) (story : Option (List Shown)) (is : List Input)
+    → exchanges_in (with_front (question_shown q wanted ∷ []) story) (i ∷ is) ≡ with_front (Answered q wanted i ∷ []) (exchanges_in story is)
+answer_first q wanted i None is = refl
+answer_first q wanted i (Some shown) is = refl
+
 -- ---- events
 
 pub shows_nothing : (course : Course) (told : Option (List LinkCall)) → Shows course course told told
-shows_nothing course told = record { done = []; follows = λ is. refl; link = tells_same told; clock = refl; routines = refl }
+shows_nothing course told = record {
+  done = [];
+  follows = λ is. sym (front-none (exchanges_in (course.story is) is));
+  fits = λ is fit. fit;
+  link = tells_same told;
+  clock = refl;
+  routines = refl;
+}
 
 pub closing_tells_no_time : (e : Event) → (flat_map clock_part (closing e) ≡ []) × (flat_map routine_part (closing e) ≡ [])
 closing_tells_no_time (events.Closed fd) = (refl, refl)
@@ -43,7 +66,12 @@ closing_tells_no_time e = (refl, refl)
 pub shows_more : (a b c : Course) (k l m : Option (List LinkCall)) (e : Event) → Shows a b k l → TellsNext e b c → Tells l m (flat_map link_part (closing e)) → Shows a c k m
 shows_more a b c k l m e s n t = record {
   done = s.done ++ closing e;
-  follows = λ is. rw (s.follows is, n.goes_on is) (sym (append_assoc s.done (closing e) (exchanges (c is) is)));
+  follows = λ is.
+      s.follows is
+      ∙ ap (λ (o : Option (List Shown)). with_front s.done (exchanges_in o is)) (n.story is)
+      ∙ ap (with_front s.done) (event_first e (c.story is) is)
+      ∙ front-front s.done (closing e) (exchanges_in (c.story is) is);
+  fits = λ is fit. s.fits is (event_fits e b c n is fit);
   link = rw (flat-both link_part s.done (closing e)) (tells_then k l m (flat_map link_part s.done) (flat_map link_part (closing e)) s.link t);
   clock = rw (flat-both clock_part s.done (closing e), s.clock) ((closing_tells_no_time e).0);
   routines = rw (flat-both routine_part s.done (closing e), s.routines) ((closing_tells_no_time e).1);
@@ -51,7 +79,14 @@ shows_more a b c k l m e s n t = record {
 
 -- the same story goes on
 pub shows_same : (a b c : Course) (k l : Option (List LinkCall)) → Shows a b k l → SameCourse b c → Shows a c k l
-shows_same a b c k l s n = record { done = s.done; follows = λ is. rw (n is) (s.follows is); link = s.link; clock = s.clock; routines = s.routines }
+shows_same a b c k l s n = record {
+  done = s.done;
+  follows = λ is. s.follows is ∙ ap (λ (o : Option (List Shown)). with_front s.done (exchanges_in o is)) (n.story is);
+  fits = λ is fit. s.fits is (same_fits b c n is fit);
+  link = s.link;
+  clock = s.clock;
+  routines = s.routines;
+}
 
 -- ---- answers
 
@@ -60,7 +95,9 @@ serves_nothing s = record {
   given = [];
   done = [];
   many = refl;
-  follows = λ is. refl;
+  follows = λ is. sym (front-none (exchanges_in (s.course.story is) is));
+  fits = λ is fit. fit;
+  sound = refl;
   link = tells_same s.link;
   clock = tells_same s.clock;
   routines = tells_same s.routines;
@@ -72,7 +109,13 @@ serves_then m n a b c x y = record {
   given = x.given ++ y.given;
   done = x.done ++ y.done;
   many = rw (length-append x.given y.given, x.many, y.many) refl;
-  follows = λ is. rw (append_assoc x.given y.given is, x.follows (y.given ++ is), y.follows is) (sym (append_assoc x.done y.done (exchanges (c.course is) is)));
+  follows = λ is.
+      ap (λ (js : List Input). exchanges_in (a.course.story js) js) (append_assoc x.given y.given is)
+      ∙ x.follows (y.given ++ is)
+      ∙ ap (with_front x.done) (y.follows is)
+      ∙ front-front x.done y.done (exchanges_in (c.course.story is) is);
+  fits = λ is fit. subst (AllFit (line_course a.course)) (sym (append_assoc x.given y.given is)) (x.fits (y.given ++ is) (y.fits is fit));
+  sound = list_all-append has_ranges x.given y.given ∙ rw (x.sound, y.sound) refl;
   link = rw (flat-both link_part x.done y.done) (tells_then a.link b.link c.link (flat_map link_part x.done) (flat_map link_part y.done) x.link y.link);
   clock = rw (flat-both clock_part x.done y.done) (tells_then a.clock b.clock c.clock (flat_map clock_part x.done) (flat_map clock_part y.done) x.clock y.clock);
   routines = rw (flat-both routine_part x.done y.done) (tells_then a.routines b.routines c.routines (flat_map routine_part x.done) (flat_map routine_part y.done) x.routines y.routines);
@@ -86,6 +129,8 @@ serves_shown before after s c r o = record {
   done = s.done;
   many = refl;
   follows = s.follows;
+  fits = s.fits;
+  sound = refl;
   link = s.link;
   clock = rw (c, s.clock) (tells_same before.clock);
   routines = rw (r, s.routines) (tells_same before.routines);
@@ -93,59 +138,24 @@ serves_shown before after s c r o = record {
 }
 
 -- one answer
-pub serves_one : (before after : Scene) (q : Ask) (wanted : List Want) (i : Input) →
-    ((is : List Input) → before.course (i ∷ is) ≡ record { item = Asked q; wanted = wanted } ∷ after.course is) →
+pub serves_one : (before after : Scene) (question : Option Ask) (q : Ask) (wanted : List Want) (i : Input) → question ≡ Some q →
+    Asks question wanted before.course → Takes question wanted i before.course after.course → Suits q i → has_ranges i ≡ true →
     Tells before.link after.link (link_answer q wanted i) → Tells before.clock after.clock (clock_answer q i) → Tells before.routines after.routines (routine_answer q i) →
     Appends before.out after.out (input_text i) → Serves 1 before after
-serves_one before after q wanted i goes_on l c r o = record {
+serves_one before after question q wanted i asked asks takes suits ranges l c r o = record {
   given = i ∷ [];
   done = Answered q wanted i ∷ [];
   many = refl;
-  follows = λ is. rw (goes_on is) refl;
+  follows = λ is.
+      ap (λ (o : Option (List Shown)). exchanges_in o (i ∷ is)) (takes.goes_on q asked is)
+      ∙ answer_first q wanted i (after.course.story is) is;
+  fits = λ is fit. answer_fits q wanted i before.course after.course (asks.last q asked) suits.fits (takes.goes_on q asked) takes.strays takes.settles takes.more is fit;
+  sound = rw ranges refl;
   link = rw (append-nil (link_answer q wanted i)) l;
   clock = rw (append-nil (clock_answer q i)) c;
   routines = rw (append-nil (routine_answer q i)) r;
   out = rw (append-nil (input_text i)) o;
 }
-
--- ---- what is open
-
-either_true : (b c : Bool) → c ≡ true → (b || c) ≡ true
-either_true true c h = refl
-either_true false c h = h
-
-not_both : (b : Bool) → b ≡ true → b ≡ false → ⊥
-not_both true h k = let e : true ≡ false = k in cc
-not_both false h k = let e : false ≡ true = h in cc
-
-same_taken : (t d : ℕ) → inputs.Took t ≡ inputs.Took d → t ≡ d
-same_taken t d e = cc
-
--- after an event
-pub agrees_event : (m n k l : ℕ → Bool) (e : Event) → Agrees m k → OpenAfter (Ok (Some e)) m n → OpenClosed e k l → Agrees n l
-agrees_event m n k l (events.Closed fd) a o c = λ d positive here.
-    elim (cases_eq d fd) [
-      | inl same ↦ absurd ((o d here).1 (ap (λ (x : ℕ). events.Closed x) (sym same)))
-      | inr differs ↦ let other : (d == fd) ≡ false = grind (arith, nat_tests) in c d ∙ rw (other, a d positive (o d here).0) refl
-    ]
-agrees_event m n k l e a o c = λ d positive here. c d ∙ a d positive (o d here).0
-
--- after an answer
-pub agrees_answer : (m n k l : ℕ → Bool) (i : Input) → Agrees m k → OpenTaken i m n → OpensBy k l i → Agrees n l
-agrees_answer m n k l (inputs.Took t) a o c = λ d positive here.
-    elim (o d here) [
-      | inl was ↦ c.added d ∙ either_true (d == t) (k d) (a d positive was)
-      | inr taken ↦ let same : t ≡ d = same_taken t d taken in let one : (d == t) ≡ true = grind (arith, nat_tests) in c.added d ∙ rw one refl
-    ]
-agrees_answer m n k l i a o c = λ d positive here.
-    elim (o d here) [ inl was ↦ c d ∙ a d positive was | inr taken ↦ absurd (cc) ]
-
--- what is accepted isn't open yet
-pub fresh_answer : (m k l : ℕ → Bool) (i : Input) → Agrees m k → OpensBy k l i → (fd : ℕ) → i ≡ inputs.Took fd → m fd ≡ true → ⊥
-fresh_answer m k l (inputs.Took t) a c fd e here =
-    let same : t ≡ fd = same_taken t fd e in
-    not_both (k t) (rw same (a fd (subst (λ (x : ℕ). 1 ≤ x) same c.positive) here)) c.vacant
-fresh_answer m k l i a c fd e here = cc
 
 -- one answer more, and the events behind it
 pub serves_round : (n : ℕ) (a b c d : Scene) → Serves n a b → Serves 1 b c → Serves 0 c d → Serves (n + 1) a d
@@ -156,25 +166,36 @@ serves_round n a b c d x y z =
 -- ---- a whole run
 
 -- where a question is open and no answer comes there is nothing to do
-nothing_left : (question : Option Ask) (wanted : List Want) (course : Course) → Asks question wanted course → exchanges (course []) [] ≡ []
+nothing_left : (question : Option Ask) (wanted : List Want) (course : Course) → Asks question wanted course → exchanges_in (course.story []) [] ≡ Some []
 nothing_left None wanted course a = absurd (let h : false ≡ true = a.open_now in cc)
 nothing_left (Some q) wanted course a = rw (a.last q refl) refl
+
+-- a story with these exchanges is there
+there : (story : Option (List Shown)) (is : List Input) (done : List Exchange) → exchanges_in story is ≡ Some done → (shown : List Shown) × (story ≡ Some shown) × (exchanges shown is ≡ done)
+there None is done e = cc
+there (Some shown) is done e = (shown, refl, cc)
 
 -- the link listens, the header is put, and the answers follow
 pub served_whole : (path : List ℕ) (answers : ℕ) (before begun after : Scene) (question : Option Ask) (wanted : List Want) →
     begun.course ≡ before.course → Tells before.link begun.link (Listen path ends.Done ∷ []) → begun.clock ≡ before.clock → begun.routines ≡ before.routines →
     Appends before.out begun.out record_header → Serves answers begun after → Asks question wanted after.course → IsServed path answers before after
 served_whole path answers before begun after question wanted e l c r o s a =
-    let over : exchanges (before.course s.given) s.given ≡ s.done =
-    ap (λ (f : Course). exchanges (f s.given) s.given) (sym e)
-    ∙ ap (λ (is : List Input). exchanges (begun.course is) is) (sym (append-nil s.given))
+    let over : exchanges_in (before.course.story s.given) s.given ≡ Some s.done =
+    ap (λ (f : Course). exchanges_in (f.story s.given) s.given) (sym e)
+    ∙ ap (λ (is : List Input). exchanges_in (begun.course.story is) is) (sym (append-nil s.given))
     ∙ s.follows []
-    ∙ rw (nothing_left question wanted after.course a) (append-nil s.done) in
+    ∙ ap (with_front s.done) (nothing_left question wanted after.course a)
+    ∙ ap Some (append-nil s.done) in
+    let t = there (before.course.story s.given) s.given s.done over in
     record {
       given = s.given;
       many = s.many;
-      link = rw over (tells_then before.link begun.link after.link (Listen path ends.Done ∷ []) (flat_map link_part s.done) l s.link);
-      clock = rw over (subst (λ (t : Option (List ℕ)). Tells t after.clock (flat_map clock_part s.done)) c s.clock);
-      routines = rw over (subst (λ (t : Option (List (Moment × Act))). Tells t after.routines (flat_map routine_part s.done)) r s.routines);
+      shown = t.0;
+      story = t.1;
+      fits = subst (λ (f : Course). AllFit (line_course f) s.given) e (subst (AllFit (line_course begun.course)) (append-nil s.given) (s.fits [] tt));
+      sound = s.sound;
+      link = rw t.2 (tells_then before.link begun.link after.link (Listen path ends.Done ∷ []) (flat_map link_part s.done) l s.link);
+      clock = rw t.2 (subst (λ (t : Option (List ℕ)). Tells t after.clock (flat_map clock_part s.done)) c s.clock);
+      routines = rw t.2 (subst (λ (t : Option (List (Moment × Act))). Tells t after.routines (flat_map routine_part s.done)) r s.routines);
       out = Appends-trans before.out begun.out after.out record_header (flat_map input_text s.given) o s.out;
     }

@@ -1,5 +1,5 @@
 -- Where serving stops: at a question, at its line, and after answers that were given before.
-use Rattle.std.proofs.Common.{◌≡◌, ◌≢◌, ◌≤◌, ℕ, ◌+◌, List, [], ◌++◌, take, Option, Some, None, Result, Err, refl, sym, ◌∙◌, length-append, arith}
+use Rattle.std.proofs.Common.{◌≡◌, ◌≢◌, ◌≤◌, ℕ, ◌+◌, List, [], ◌++◌, take, Option, Some, None, Result, Err, refl, sym, ap, ◌∙◌, length-append, arith}
 use Rattle.std.specs.Prelude.{flat_map}
 use Rattle.std.proofs.lemmas.List.{append_assoc}
 use Rattle.std.specs.Io.KnownBytes.{Appends}
@@ -14,8 +14,12 @@ use Rattle.outside.specs.Tellings.{Tells}
 use Rattle.outside.proofs.TellingLaws.{tells_same, tells_then}
 use Rattle.serving.specs.declared.stop.Stop.{Stop}
 use Rattle.serving.specs.declared.stop.Stop.TheVariants as stops
-use Rattle.serving.specs.Exchanges.{exchanges, link_answer, clock_answer, routine_answer, link_part, clock_part, routine_part}
-use Rattle.serving.specs.Serving.{Scene, Serves, Suits}
+use Rattle.machine_driver.specs.Driver.{with_front}
+use Rattle.machine_driver.proofs.Driving.{front-front, front-none}
+use Rattle.service_rules.specs.Exchanges.{Suits}
+use Rattle.serving.specs.Machines.{Course}
+use Rattle.serving.specs.Exchanges.{exchanges_in, link_answer, clock_answer, routine_answer, link_part, clock_part, routine_part}
+use Rattle.serving.specs.Serving.{Scene, Serves}
 use Rattle.serving.specs.Stopping.{Begun, begun_link, begun_clock, begun_routines, begun_line, calls_for, Explains, FailsToAnswer, IsNext, IsOpen, Stops}
 use Rattle.serving.specs.Stopping.Begun.{Nothing, FailedWait, Forgotten, Heard}
 use Rattle.serving.proofs.ServingLaws.{flat-both}
@@ -29,7 +33,7 @@ stops_at b why before after same next reason l c r n o = record {
   done = [];
   begun = b;
   many = omega arith;
-  follows = λ is. rw same refl;
+  follows = λ is. ap (λ (f : Course). exchanges_in (f.story is) is) (sym same) ∙ sym (front-none (exchanges_in (after.course.story is) is));
   next = rw same next;
   reason = reason;
   link = l;
@@ -86,7 +90,11 @@ stops_later why m n most a b c few x y = record {
   done = x.done ++ y.done;
   begun = y.begun;
   many = rw (length-append x.given y.given, x.many) (omega (arith, few, y.many));
-  follows = λ is. rw (append_assoc x.given y.given is, x.follows (y.given ++ is), y.follows is) (sym (append_assoc x.done y.done (exchanges (c.course is) is)));
+  follows = λ is.
+      ap (λ (js : List Input). exchanges_in (a.course.story js) js) (append_assoc x.given y.given is)
+      ∙ x.follows (y.given ++ is)
+      ∙ ap (with_front x.done) (y.follows is)
+      ∙ front-front x.done y.done (exchanges_in (c.course.story is) is);
   next = y.next;
   reason = y.reason;
   link = rw (both link_part x.done y.done (begun_link y.begun)) (tells_then a.link b.link c.link (flat_map link_part x.done) (flat_map link_part y.done ++ begun_link y.begun) x.link y.link);

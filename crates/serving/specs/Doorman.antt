@@ -1,20 +1,17 @@
 -- The story of the tests' machine: it waits for its listener and accepts in turn, and closes what it has accepted.
-use Rattle.std.specs.Prelude.{ℕ, ◌==◌, Bool, true, false, not, List, [], ◌∷◌, Option, Some, None}
+use Rattle.std.specs.Prelude.{ℕ, Bool, true, false, not, List, [], ◌∷◌, Option, Some, None}
 use Rattle.tree_specs.specs.declared.event.Event.TheVariants as events
 use Rattle.tree_specs.specs.declared.question.Ask.{Ask}
 use Rattle.tree_specs.specs.declared.question.Ask.TheVariants as ask
 use Rattle.tree_specs.specs.declared.question.Input.{Input}
 use Rattle.tree_specs.specs.declared.question.Input.TheVariants as inputs
 use Rattle.tree_specs.specs.declared.wants.Want.{Want}
-use Rattle.tree_specs.specs.Rules.Items.{Item}
-use Rattle.tree_specs.specs.Rules.Items.Item.{Told, Asked}
-use Rattle.serving.specs.Exchanges.{WatchedItem}
+use Rattle.machine_driver.specs.Driver.Kind.{Event as AnEvent}
+use Rattle.service_rules.specs.Watching.{Shown}
+use Rattle.serving.specs.Machines.{Course, question_shown}
 
 abbrev pub listener : List Want
 listener = record { fd = 0; flags = 1 } ∷ []
-
-abbrev pub watched : Item → WatchedItem
-watched item = record { item = item; wanted = listener }
 
 -- a wait where it is to wait, and else an accept
 abbrev pub door_ask : Bool → Ask
@@ -35,18 +32,18 @@ abbrev pub due_after : Bool → Input → Option ℕ
 due_after true i = None
 due_after false i = taken_by i
 
-abbrev pub is_due : Option ℕ → ℕ → Bool
-is_due None fd = false
-is_due (Some due) fd = due == fd
-
 -- what is to be closed is closed first
-abbrev pub closed_first : Option ℕ → List WatchedItem → List WatchedItem
+abbrev pub closed_first : Option ℕ → List Shown → List Shown
 closed_first None rest = rest
-closed_first (Some fd) rest = watched (Told (events.Closed fd)) ∷ rest
+closed_first (Some fd) rest = AnEvent (events.Closed fd) ∷ rest
 
-abbrev pub questions : Bool → List Input → List WatchedItem
-questions waits [] = watched (Asked (door_ask waits)) ∷ []
-questions waits (i ∷ is) = watched (Asked (door_ask waits)) ∷ closed_first (due_after waits i) (questions (not waits) is)
+abbrev pub questions : Bool → List Input → List Shown
+questions waits [] = question_shown (door_ask waits) listener ∷ []
+questions waits (i ∷ is) = question_shown (door_ask waits) listener ∷ closed_first (due_after waits i) (questions (not waits) is)
 
-abbrev pub door_story : Bool → Option ℕ → List Input → List WatchedItem
-door_story waits due is = closed_first due (questions waits is)
+-- it takes whatever it is given
+abbrev pub door_course : Bool → Option ℕ → Course
+door_course waits due = record {
+  story = λ is. Some (closed_first due (questions waits is));
+  strays = λ is. false;
+}

@@ -1,7 +1,5 @@
--- What a story has to do with the outside: its questions with their answers, and what it closes.
-use Rattle.std.specs.Prelude.{ℕ, List, [], ◌∷◌, ◌++◌, flat_map, Some}
-use Rattle.tree_specs.specs.declared.event.Event.{Event}
-use Rattle.tree_specs.specs.declared.event.Event.TheVariants as events
+-- What each end of the outside is asked, where the story has these exchanges.
+use Rattle.std.specs.Prelude.{ℕ, List, [], ◌∷◌, flat_map, Option, Some, None}
 use Rattle.tree_specs.specs.declared.moment.Moment.{Moment}
 use Rattle.tree_specs.specs.declared.question.Ask.{Ask}
 use Rattle.tree_specs.specs.declared.question.Ask.TheVariants as ask
@@ -9,39 +7,17 @@ use Rattle.tree_specs.specs.declared.question.Act.{Act}
 use Rattle.tree_specs.specs.declared.question.Input.{Input}
 use Rattle.tree_specs.specs.declared.question.Input.TheVariants as input
 use Rattle.tree_specs.specs.declared.wants.Want.{Want}
-use Rattle.tree_specs.specs.Rules.Items.{Item}
-use Rattle.tree_specs.specs.Rules.Items.Item.{Told, Asked}
 use Rattle.outside.specs.declared.sink.Done.TheVariants as ends
 use Rattle.outside.specs.LinkCalls.{LinkCall}
 use Rattle.outside.specs.LinkCalls.LinkCall.{Listen, Wait, Accept, Read, Write, Close}
+use Rattle.service_rules.specs.Exchanges.{Exchange, exchanges}
+use Rattle.service_rules.specs.Exchanges.Exchange.{Answered, Closed}
+use Rattle.service_rules.specs.Watching.{Shown}
 
--- an item of a story, with the descriptors that are watched while it comes
-pub record WatchedItem : Type 0 where
-  pub item : Item
-  pub wanted : List Want
-
--- what the outside has to do with an item
-pub data Exchange : Type 0 where
-  -- a question, with what was watched then, and its answer
-  Answered : Ask → List Want → Input → Exchange
-  -- this descriptor was closed
-  Closed : ℕ → Exchange
-
--- what an event closes
-abbrev pub closing : Event → List Exchange
-closing (events.Closed fd) = Closed fd ∷ []
-closing e = []
-
--- an item with the answers that still come, and the exchanges after it; a question without an answer is the end
-abbrev pub exchange : Item → List Want → List Input → (List Input → List Exchange) → List Exchange
-exchange (Told e) wanted is later = closing e ++ later is
-exchange (Asked q) wanted [] later = []
-exchange (Asked q) wanted (i ∷ is) later = Answered q wanted i ∷ later is
-
--- the questions with these answers, as far as there are any, and what is closed between them
-abbrev pub exchanges : List WatchedItem → List Input → List Exchange
-exchanges [] is = []
-exchanges (s ∷ ss) is = exchange s.item s.wanted is (λ more. exchanges ss more)
+-- the exchanges of a story that may not be there
+abbrev pub exchanges_in : Option (List Shown) → List Input → Option (List Exchange)
+exchanges_in None is = None
+exchanges_in (Some shown) is = Some (exchanges shown is)
 
 -- ---- what each end is asked
 

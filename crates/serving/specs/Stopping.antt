@@ -7,7 +7,6 @@ use Rattle.tree_specs.specs.declared.question.Ask.TheVariants as ask
 use Rattle.tree_specs.specs.declared.question.Act.{Act}
 use Rattle.tree_specs.specs.declared.question.Input.{Input}
 use Rattle.tree_specs.specs.declared.wants.Want.{Want}
-use Rattle.tree_specs.specs.Rules.Items.Item.{Asked}
 use Rattle.tree_specs.specs.Texts.Text.{input_text}
 use Rattle.outside.specs.declared.sink.Done.TheVariants as ends
 use Rattle.outside.specs.LinkCalls.{LinkCall}
@@ -15,9 +14,12 @@ use Rattle.outside.specs.LinkCalls.LinkCall.{Listen, Wait}
 use Rattle.outside.specs.Tellings.{Tells}
 use Rattle.serving.specs.declared.stop.Stop.{Stop}
 use Rattle.serving.specs.declared.stop.Stop.TheVariants as stops
-use Rattle.serving.specs.Exchanges.{Exchange, exchanges, link_answer, clock_answer, routine_answer, link_part, clock_part, routine_part}
-use Rattle.serving.specs.Machines.{Course}
-use Rattle.serving.specs.Serving.{Scene, Suits, record_header}
+use Rattle.machine_driver.specs.Driver.{with_front}
+use Rattle.service_rules.specs.Exchanges.{Exchange, Suits}
+use Rattle.service_records.specs.Records.{record_header}
+use Rattle.serving.specs.Exchanges.{exchanges_in, link_answer, clock_answer, routine_answer, link_part, clock_part, routine_part}
+use Rattle.serving.specs.Machines.{Course, question_shown}
+use Rattle.serving.specs.Serving.{Scene}
 
 -- ---- a question without a usable answer
 
@@ -81,7 +83,7 @@ begun_line (Heard q wanted i) = input_text i
 
 -- this question is open where no answer comes, and these are watched
 abbrev pub IsOpen : Ask → List Want → Course → Type 0
-IsOpen q wanted course = course [] ≡ record { item = Asked q; wanted = wanted } ∷ []
+IsOpen q wanted course = course.story [] ≡ Some (question_shown q wanted ∷ [])
 
 -- the exchange comes next in the story, and an answer that was heard suits the question
 abbrev pub IsNext : Begun → Course → Type 0
@@ -104,7 +106,7 @@ pub record Stops (why : Stop) (answers : ℕ) (before after : Scene) : Type 0 wh
   pub done : List Exchange
   pub begun : Begun
   pub many : length given ≤ answers
-  pub follows : (is : List Input) → exchanges (before.course (given ++ is)) (given ++ is) ≡ done ++ exchanges (after.course is) is
+  pub follows : (is : List Input) → exchanges_in (before.course.story (given ++ is)) (given ++ is) ≡ with_front done (exchanges_in (after.course.story is) is)
   pub next : IsNext begun after.course
   pub reason : Explains begun why
   pub link : Tells before.link after.link (flat_map link_part done ++ begun_link begun)

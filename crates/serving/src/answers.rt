@@ -9,9 +9,11 @@ ghost use Rattle.outside.specs.Descriptors.{SameOpen};
 ghost use Rattle.outside.specs.Tellings.{Tells};
 ghost use Rattle.outside.specs.LinkCalls.LinkCall.{Accept, Read, Write};
 ghost use Rattle.serving.specs.Exchanges.{link_answer, clock_answer, routine_answer};
-ghost use Rattle.serving.specs.Serving.{Suits, OpensBy};
+ghost use Rattle.service_rules.specs.Exchanges.{Suits};
+ghost use Rattle.service_rules.specs.ReadRanges.{reads_in_range};
+ghost use Rattle.serving.specs.Serving.{OpensBy};
 ghost use Rattle.serving.specs.Stopping.{FailsToAnswer};
-ghost use Rattle.serving.specs.Machines.{is_sound_ask};
+ghost use Rattle.serving.specs.Machines.{is_for_outside};
 
 use crate::machine::Machine;
 use crate::stop::Stop;
@@ -155,7 +157,8 @@ pub(crate) fn answer<M: Machine, L: Link, C: Clock, R: Routines>(
     clock: &mut C,
     routines: &mut R,
 ) -> Result<Input, Stop>
-    requires { IsTrue (is_sound_ask asked.now) }
+    requires outside { IsTrue (is_for_outside asked.now) }
+    requires range { IsTrue (reads_in_range asked.now) }
     ensures suits { IfOk result (λ i. Suits asked.now i) }
     ensures link { IfOk result (λ i.
         Tells (L.told link.old) (L.told link.new) (link_answer asked.now (M.wanted machine.now) i)) }

@@ -1,11 +1,11 @@
 //! The record of a service: a schedule of its header and the line of each answer.
-ghost use Rattle.std.specs.Prelude.{◌≡◌, Err, IsTrue, OnOk, OnErr};
+ghost use Rattle.std.specs.Prelude.{◌≡◌, Err, IsTrue, OnOk, OnErr, true};
 ghost use Rattle.std.specs.Io.KnownBytes.{Appends};
 ghost use Rattle.tree_specs.specs.Texts.Text.{input_text};
 ghost use Rattle.tree_specs.specs.Words.Ranges.{is_sound};
 ghost use Rattle.outside.specs.Causes.{Counts};
 ghost use Rattle.outside.specs.Outputs.{PutsFront};
-ghost use Rattle.serving.specs.Serving.{record_header};
+ghost use Rattle.service_records.specs.Records.{has_ranges, record_header};
 
 use crate::stop::Stop;
 use outside::{Sink, put_all};
@@ -28,6 +28,7 @@ pub(crate) fn put_header<K: Sink>(out: &mut K) -> Result<(), Stop>
 pub(crate) fn put_input<K: Sink>(alloc: Global, input: &Input, out: &mut K) -> Result<(), Stop>
     requires { IsTrue (is_sound input.now) }
     ensures put { OnOk result (Appends (K.held out.old) (K.held out.new) (input_text input.now)) }
+    ensures ranges { has_ranges input.now ≡ true }
     ensures front { OnErr result (PutsFront (K.held out.old) (K.held out.new) (input_text input.now)) }
     ensures cause { Counts (K.faults out.old) (K.faults out.new) (result ≡ Err Stop.Write) }
     ensures no_link { result ≡ Err Stop.Link → ⊥ }

@@ -4,8 +4,8 @@ ghost use Rattle.outside.specs.Causes.{Counts};
 ghost use Rattle.outside.specs.Tellings.{Tells};
 ghost use Rattle.outside.specs.Descriptors.{SameOpen};
 ghost use Rattle.outside.specs.LinkCalls.LinkCall.{Listen};
-ghost use Rattle.serving.specs.Machines.{Asks};
-ghost use Rattle.serving.specs.Serving.{Agrees, IsServed, scene};
+ghost use Rattle.serving.specs.Machines.{Asks, IsServable};
+ghost use Rattle.serving.specs.Serving.{IsServed, scene};
 ghost use Rattle.serving.specs.Stopping.{IsStopped};
 
 use crate::machine::Machine;
@@ -50,8 +50,9 @@ pub fn serve<M: Machine, L: Link, C: Clock, R: Routines, K: Sink>(
     routines: &mut R,
     out: &mut K,
 ) -> Result<(), Stop>
-    // What is open to the machine is open at the link too, the listener aside.
-    requires { Agrees (M.is_open machine.old) (L.is_open link.old) }
+    // The machine takes all answers that suit its questions and accept what isn't open at the link, and asks for no read
+    // of more bytes than may be read at once.
+    requires { IsServable (M.course machine.old) (L.is_open link.old) }
     ensures served { OnOk result (IsServed path.now answers
         (scene (M.course machine.old) (L.told link.old) (C.told clock.old) (R.told routines.old) (K.held out.old))
         (scene (M.course machine.new) (L.told link.new) (C.told clock.new) (R.told routines.new) (K.held out.new))) }

@@ -1,9 +1,10 @@
 //! Tests of the loop: a small machine over ends in memory.
 ghost use Rattle.std.specs.Prelude.{◌≡◌, ℕ, Bool, None, List};
 ghost use Rattle.tree_specs.specs.declared.question.Ask.TheVariants as ask;
-ghost use Rattle.serving.specs.Doorman.{listener, door_question, door_story, is_due, taken_by as taken_of};
+ghost use Rattle.serving.specs.Doorman.{listener, door_course, door_question, due_after as due_is};
 
 use super::*;
+use host_core::OfferFault;
 use outside::{MemClock, MemLink, MemRoutines, MemSink};
 use std::alloc::Global;
 use std::process::Abort;
@@ -34,9 +35,13 @@ impl Doorman {
     }
 }
 
-fn taken_by(input: &Input) -> Option<u32>
-    ensures { result ≡ taken_of input.now }
+// The descriptor that is to be closed after an answer.
+fn due_after(waits: bool, input: &Input) -> Option<u32>
+    ensures { result ≡ due_is waits input.now }
 {
+    if waits {
+        return None;
+    }
     match input {
         Input::Took(fd) => Some(*fd),
         _ => None,
@@ -44,13 +49,11 @@ fn taken_by(input: &Input) -> Option<u32>
 }
 
 impl Machine for Doorman {
-    ghost course = { λ m. door_story m.waits m.due };
+    ghost course = { λ m. door_course m.waits m.due };
 
     ghost asked = { λ m. door_question m.waits m.due };
 
     ghost wanted = { λ m. listener };
-
-    ghost is_open = { λ m fd. is_due m.due fd };
 
     fn question(&self) -> Option<&Ask> {
         if self.due.is_some() {
@@ -83,13 +86,8 @@ impl Machine for Doorman {
         if self.due.is_some() {
             return Err(OfferFault::NotAsked);
         }
-        let taken = taken_by(&input);
-        if self.waits {
-            self.waits = false;
-        } else {
-            self.waits = true;
-            self.due = taken;
-        }
+        self.due = due_after(self.waits, &input);
+        self.waits = !self.waits;
         Ok(())
     }
 }

@@ -37,3 +37,27 @@ returns-clause-large_count c = refl
 pub returns-clause-no_number : goal.returns-clause-no_number
 unfolding clap_on_literals
 returns-clause-no_number c = refl
+
+pub returns-clause-no_answers : goal.returns-clause-no_answers
+unfolding clap_on_literals
+returns-clause-no_answers c = refl
+
+pub returns-clause-zero_answers : goal.returns-clause-zero_answers
+unfolding clap_on_literals
+returns-clause-zero_answers c = refl
+
+pub returns-clause-large_answers : goal.returns-clause-large_answers
+unfolding clap_on_literals
+returns-clause-large_answers c = refl
+
+pub returns-clause-empty_path : goal.returns-clause-empty_path
+unfolding clap_on_literals
+returns-clause-empty_path c = refl
+
+pub returns-clause-option_for_path : goal.returns-clause-option_for_path
+unfolding clap_on_literals
+returns-clause-option_for_path c = refl
+
+pub returns-clause-word_after_answers : goal.returns-clause-word_after_answers
+unfolding clap_on_literals
+returns-clause-word_after_answers c = refl

@@ -17,3 +17,11 @@ returns-clause-least c = refl
 pub returns-clause-most : goal.returns-clause-most
 unfolding clap_on_literals
 returns-clause-most c = refl
+
+pub returns-clause-serve : goal.returns-clause-serve
+unfolding clap_on_literals
+returns-clause-serve c = refl
+
+pub returns-clause-most_answers : goal.returns-clause-most_answers
+unfolding clap_on_literals
+returns-clause-most_answers c = refl

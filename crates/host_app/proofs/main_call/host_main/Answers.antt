@@ -1,14 +1,21 @@
-use Rattle.std.proofs.Common.{rules, ◌≡◌, ◌∙◌, ap, sym, Some, None}
-use Rattle.command_words.specs.declared.command.Command.TheVariants.{Replay, Load}
-use Rattle.host_app.specs.Mains.{names, Loads}
-use Rattle.host_app.proofs.MainLaws.{replay-front, kept-front, loads-by, loads-same, not-load, not-named, load-none}
+use Rattle.std.proofs.Common.{rules, arith, ℕ, ◌≡◌, ◌∙◌, ap, subst, sym, Some, None, Ok}
+use Rattle.command_words.specs.CommandLine.Asked.{Load, Replay, Serve}
+use Rattle.command_words.specs.declared.command.Command.{Command}
+use Rattle.serving.specs.Stations.{ends}
+use Rattle.host_app.specs.Mains.{names, Loads, Says}
+use Rattle.host_app.specs.Serves.{Serves}
+use Rattle.host_app.specs.Statuses.{status_text}
+use Rattle.host_app.proofs.MainLaws.{replay-complete, replay-front, kept-front, load-none, load-not-serve, loads-by, loads-same, memory-complete, not-load, not-named, not-serve, says-by, serves-by, serves-none, serves-same}
 use Rattle.host_app.proofs.main_call.host_main.Goals as goal
-use Rattle.host_app.proofs.main_call.host_main.Goals.{in-Ok-Replay, in-Ok-Load, in-Err-Usage, in-Err-Memory}
+use Rattle.host_app.proofs.main_call.host_main.Goals.{in-Ok-Replay, in-Ok-Serve, in-Ok-Load, in-Err-Usage, in-Err-Memory}
 
 pub returns-clause-memory_front : goal.returns-clause-memory_front
 returns-clause-memory_front g c = λ named memory. elim c.match-read_words.branch [
   | in-Ok-Replay w ↦ rw w.out-is (replay-front (g.S.Source.left c.args.input.now) (g.S.Source.left w.replay.new.input) (g.K.Sink.held c.args.out.now) (g.K.Sink.held w.replay.new.out) w.replay.result c.match-read_words.status
       (w.status-is ∙ w.from-status.ensures) w.replay.ensures.replays memory)
+  | in-Ok-Serve w ↦
+      let is : names c.args.words.now ≡ Some (Serve w.in-Ok-Serve.path.now w.in-Ok-Serve.answers) = search rules in
+      absurd (not-serve w.in-Ok-Serve.path.now w.in-Ok-Serve.answers (sym named ∙ is))
   | in-Ok-Load w ↦
       let is : names c.args.words.now ≡ Some (Load w.in-Ok-Load.number w.in-Ok-Load.count) = search rules in
       absurd (not-load w.in-Ok-Load.number w.in-Ok-Load.count (sym named ∙ is))
@@ -21,6 +28,9 @@ returns-clause-loads g c = λ number count named. elim c.match-read_words.branch
   | in-Ok-Replay w ↦
       let is : names c.args.words.now ≡ Some Replay = search rules in
       absurd (not-load number count (sym is ∙ named))
+  | in-Ok-Serve w ↦
+      let is : names c.args.words.now ≡ Some (Serve w.in-Ok-Serve.path.now w.in-Ok-Serve.answers) = search rules in
+      absurd (load-not-serve w.in-Ok-Serve.path.now w.in-Ok-Serve.answers number count (sym named ∙ is))
   | in-Ok-Load w ↦
       let is : names c.args.words.now ≡ Some (Load w.in-Ok-Load.number w.in-Ok-Load.count) = search rules in
       let done : Loads w.in-Ok-Load.number w.in-Ok-Load.count (g.K.Sink.held c.args.out.now) (g.K.Sink.held c.match-read_words.out) c.match-read_words.status =
@@ -28,6 +38,70 @@ returns-clause-loads g c = λ number count named. elim c.match-read_words.branch
       loads-same w.in-Ok-Load.number w.in-Ok-Load.count number count (g.K.Sink.held c.args.out.now) (g.K.Sink.held c.match-read_words.out) c.match-read_words.status (sym is ∙ named) done
   | in-Err-Usage w ↦
       let none : names c.args.words.now ≡ None = search rules in
-      absurd (not-named number count (names c.args.words.now) none named)
+      absurd (not-named (Load number count) (names c.args.words.now) none named)
   | in-Err-Memory w ↦ load-none number count (g.K.Sink.held c.args.out.now) (g.K.Sink.held c.match-read_words.out) c.match-read_words.status (ap g.K.Sink.held w.out-is) w.status-is
 ]
+
+pub returns-clause-serves : goal.returns-clause-serves
+returns-clause-serves g c = λ path answers named. elim c.match-read_words.branch [
+  | in-Ok-Replay w ↦
+      let is : names c.args.words.now ≡ Some Replay = search rules in
+      absurd (not-serve path answers (sym is ∙ named))
+  | in-Ok-Serve w ↦
+      let is : names c.args.words.now ≡ Some (Serve w.in-Ok-Serve.path.now w.in-Ok-Serve.answers) = search rules in
+      let before = ends (g.L.Link.told c.args.link.now) (g.C.Clock.told c.args.clock.now) (g.R.Routines.told c.args.routines.now) (g.K.Sink.held c.args.out.now) in
+      let after = ends (g.L.Link.told w.serve_lines.new.link) (g.C.Clock.told w.serve_lines.new.clock) (g.R.Routines.told w.serve_lines.new.routines) (g.K.Sink.held w.serve_lines.new.out) in
+      serves-same w.in-Ok-Serve.path.now path w.in-Ok-Serve.answers answers c.match-read_words.status before _ (sym is ∙ named)
+      (rw (w.link-is, w.clock-is, w.routines-is, w.out-is)
+      (subst (λ (n : ℕ). Serves w.in-Ok-Serve.path.now n c.match-read_words.status before after) w.from.ensures
+      (serves-by w.in-Ok-Serve.path.now w.from.result w.serve_lines.result c.match-read_words.status before after (w.status-is ∙ w.from-status-in-Ok-Serve.ensures) w.serve_lines.ensures.serves w.serve_lines.ensures.stops)))
+  | in-Ok-Load w ↦
+      let is : names c.args.words.now ≡ Some (Load w.in-Ok-Load.number w.in-Ok-Load.count) = search rules in
+      absurd (load-not-serve path answers w.in-Ok-Load.number w.in-Ok-Load.count (sym is ∙ named))
+  | in-Err-Usage w ↦
+      let none : names c.args.words.now ≡ None = search rules in
+      absurd (not-named (Serve path answers) (names c.args.words.now) none named)
+  | in-Err-Memory w ↦ rw (w.link-is, w.clock-is, w.routines-is, w.out-is) (serves-none path answers c.match-read_words.status _ w.status-is)
+]
+
+pub serve_lines-requires : goal.serve_lines-requires
+serve_lines-requires g c =
+    let few = c.in-Ok-Serve.ensures.served c.in-Ok-Serve.path c.in-Ok-Serve.answers (ap (λ (command : Command). Ok command) c.in-Ok-Serve.field-0-is) in
+    omega (arith, few.2, c.from.ensures)
+
+pub returns-clause-complete : goal.returns-clause-complete
+returns-clause-complete g c = λ named.
+    let left = g.S.Source.left c.args.input.now in
+    let reads = g.S.Source.faults in
+    let writes = g.K.Sink.faults in
+    elim c.match-read_words.branch [
+      | in-Ok-Replay w ↦ rw (w.input-is, w.out-is) (replay-complete left (reads c.args.input.now) (reads w.replay.new.input) (writes c.args.out.now) (writes w.replay.new.out) w.replay.result c.match-read_words.status
+          (w.status-is ∙ w.from-status.ensures) w.replay.ensures.complete)
+      | in-Ok-Serve w ↦
+          let is : names c.args.words.now ≡ Some (Serve w.in-Ok-Serve.path.now w.in-Ok-Serve.answers) = search rules in
+          absurd (not-serve w.in-Ok-Serve.path.now w.in-Ok-Serve.answers (sym named ∙ is))
+      | in-Ok-Load w ↦
+          let is : names c.args.words.now ≡ Some (Load w.in-Ok-Load.number w.in-Ok-Load.count) = search rules in
+          absurd (not-load w.in-Ok-Load.number w.in-Ok-Load.count (sym named ∙ is))
+      | in-Err-Usage w ↦
+          let none : names c.args.words.now ≡ None = search rules in
+          absurd (not-named Replay (names c.args.words.now) none named)
+      | in-Err-Memory w ↦ memory-complete left (reads c.args.input.now) (reads c.match-read_words.input) (writes c.args.out.now) (writes c.match-read_words.out) c.match-read_words.status w.status-is
+    ]
+
+pub returns-clause-said : goal.returns-clause-said
+returns-clause-said g c = λ other.
+    let text = status_text c.match-read_words.status in
+    let e = c.say.ensures in
+    let held = g.E.Sink.held in
+    let room = g.E.Sink.room in
+    let faults = g.E.Sink.faults in
+    let said : Says (held c.match-read_words.err) (held c.say.new.err) (room c.match-read_words.err) (faults c.match-read_words.err) (faults c.say.new.err) text =
+    says-by (held c.match-read_words.err) (held c.say.new.err) (room c.match-read_words.err) (room c.say.new.err) (faults c.match-read_words.err) (faults c.say.new.err) c.say.result text e.bytes e.cause e.room in
+    elim c.match-read_words.branch [
+      | in-Ok-Replay w ↦ rw w.err-is at said
+      | in-Ok-Serve w ↦ rw w.err-is at said
+      | in-Ok-Load w ↦ rw w.err-is at said
+      | in-Err-Usage w ↦ absurd (other w.status-is)
+      | in-Err-Memory w ↦ rw w.err-is at said
+    ]

@@ -5,3 +5,6 @@ returns-in-ReadFault-clause-bytes g c = rw c.in-ReadFault.is c.put_all.ensures.b
 
 pub returns-in-WriteFault-clause-bytes : goal.returns-in-WriteFault-clause-bytes
 returns-in-WriteFault-clause-bytes g c = rw c.in-WriteFault.is c.put_all-in-WriteFault.ensures.bytes
+
+pub returns-in-LinkFault-clause-bytes : goal.returns-in-LinkFault-clause-bytes
+returns-in-LinkFault-clause-bytes g c = rw c.in-LinkFault.is c.put_all-in-LinkFault.ensures.bytes

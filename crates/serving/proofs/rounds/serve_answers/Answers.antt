@@ -17,7 +17,7 @@ loop-given-init g c =
     record {
       served = serves_shown (scene (course c.args.machine.now) (told c.args.link.now) times acts held) (scene (course c.tell_events.new.machine) (told c.tell_events.new.link) times acts held) first.shows refl refl refl;
       asks = first.asks;
-      agrees = first.agrees;
+      servable = first.servable;
       within = omega arith;
       later = omega (arith, first.faults);
       more = omega arith;
@@ -39,7 +39,7 @@ loop-given-preserved g c =
     record {
       served = serves_round c.loop-given.given start before answered shown c.loop-given.invariant.served one.serves (serves_shown answered shown next.shows refl refl refl);
       asks = next.asks;
-      agrees = next.agrees;
+      servable = next.servable;
       within = omega (arith, c.loop-given-test.true);
       later = omega (arith, c.loop-given.invariant.later, one.link_cause.later, next.faults);
       more = omega (arith, c.loop-given.invariant.more, one.write_cause.later);

@@ -1,6 +1,6 @@
 use Rattle.std.proofs.Common.{◌≤◌, ◌-◌}
-use Rattle.serving.specs.Machines.{Asks}
-use Rattle.serving.specs.Serving.{Serves, Agrees, scene}
+use Rattle.serving.specs.Machines.{Asks, IsServable}
+use Rattle.serving.specs.Serving.{Serves, scene}
 use Rattle.serving.proofs.rounds.serve_answers.Given as goal
 
 abbrev pub invariant-loop-given : goal.invariant-loop-given
@@ -14,7 +14,7 @@ invariant-loop-given g l =
       served : Serves l.given (scene (course l.fn.machine) (told l.fn.link) (times l.fn.clock) (acts l.fn.routines) (held l.fn.out))
           (scene (course l.machine) (told l.link) (times l.clock) (acts l.routines) (held l.out));
       asks : Asks (g.M.Machine.asked l.machine) (g.M.Machine.wanted l.machine) (course l.machine);
-      agrees : Agrees (g.M.Machine.is_open l.machine) (g.L.Link.is_open l.link);
+      servable : IsServable (course l.machine) (g.L.Link.is_open l.link);
       within : l.given ≤ l.answers;
       later : g.L.Link.faults l.fn.link ≤ g.L.Link.faults l.link;
       more : g.K.Sink.faults l.fn.out ≤ g.K.Sink.faults l.out;

@@ -1,0 +1,4 @@
+pub mod Parts
+pub mod Spelling
+pub mod Texts
+pub mod Tables
