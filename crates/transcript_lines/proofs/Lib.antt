@@ -5,3 +5,4 @@ pub mod Tables
 pub mod HeadTables
 pub mod Lasts
 pub mod Digits
+pub mod Lengths

@@ -4,6 +4,7 @@
 mod bytes;
 mod event;
 mod heads;
+mod laws;
 mod line;
 mod question;
 mod refusal;
@@ -13,5 +14,9 @@ mod said;
 mod what;
 mod words;
 
+pub use laws::{
+    a_line_is_no_longer_than_the_limit, a_line_is_read_from_its_text,
+    a_line_is_read_from_no_other_text,
+};
 pub use line::read_line;
 pub use said::{Fact, Said};
