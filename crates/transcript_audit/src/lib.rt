@@ -13,3 +13,6 @@ mod taking;
 
 pub use audited::Audited;
 pub use session::audit;
+
+#[cfg(test)]
+mod tests;
