@@ -56,7 +56,7 @@ octets_last b text h = taken_last b (octets_of text) (last_field octets_of (word
 pub none_last : {A : Type 0} (read : List ℕ → Option A) → TakesLast false (last_field read [])
 none_last read = refl
 
--- a number of the widest range is any number
-pub number_taken : (r : Option ℕ) (ws left : List (List ℕ)) → TakesField r (field (numeral_of Number) ws) left → TakesField r (field number_of ws) left
-number_taken (Some n) ws left h = sym (field_is ws) ∙ h
-number_taken None ws left h = sym (field_is ws) ∙ h
+-- any number is one of the widest range
+pub number_given : (r : Option ℕ) (ws left : List (List ℕ)) → TakesField r (field number_of ws) left → TakesField r (field (numeral_of Number) ws) left
+number_given (Some n) ws left h = field_is ws ∙ h
+number_given None ws left h = field_is ws ∙ h

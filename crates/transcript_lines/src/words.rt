@@ -3,12 +3,20 @@ ghost use Rattle.std.specs.Prelude.{◌≡◌, List, ℕ};
 ghost use Rattle.tree_specs.specs.Calls.Spelling.Numeral.{Number, Number32};
 ghost use Rattle.tree_specs.specs.Texts.Grammar.{words, number_of, numeral_of, object_of, owner_of, name_of, octets_of, field, last_field};
 ghost use Rattle.text_forms.specs.Cursor.{words_left};
+ghost use Rattle.text_forms.specs.Reads.{in_range};
 ghost use Rattle.transcript_lines.specs.Readings.{TakesWord, TakesField, TakesLast, EndsHere, IsOver};
 
 use crate::bytes::{is_hexadecimal, is_name};
 use std::marker::Model;
-use text_forms::{read_number, read_u32, split_word};
+use text_forms::{number_field, split_word};
 use tree_specs::{Obj, Owner};
+
+/// A number below 2^32.
+fn as_small(n: u64) -> Option<u32>
+    ensures { result ≡ in_range Number32 n }
+{
+    u32::try_from(n).ok()
+}
 
 /// The words of a line that are still to come. Contracts see the list of them.
 #[derive(Drop)]
@@ -41,26 +49,30 @@ impl<'a> Words<'a> {
         Some(word)
     }
 
-    /// A number.
-    pub(crate) fn number(&mut self) -> Option<u64>
-        ensures { TakesField result (field (numeral_of Number) self.old) self.new }
-    {
-        read_number(self.word()?)
-    }
-
-    /// The same, by its digits.
-    #[tactic(auto, using(crate::proofs::Lasts::number_taken))]
+    /// The next word as a number, by its digits.
     fn digits(&mut self) -> Option<u64>
         ensures { TakesField result (field number_of self.old) self.new }
     {
-        self.number()
+        let text = self.rest?;
+        let (n, rest) = number_field(text)?;
+        self.rest = rest;
+        Some(n)
+    }
+
+    /// A number.
+    #[tactic(auto, using(crate::proofs::Lasts::number_given))]
+    pub(crate) fn number(&mut self) -> Option<u64>
+        ensures { TakesField result (field (numeral_of Number) self.old) self.new }
+    {
+        self.digits()
     }
 
     /// A number below 2^32.
+    #[tactic(auto, unfolding(tree_specs::specs::Texts::Grammar::numeral_of))]
     pub(crate) fn small(&mut self) -> Option<u32>
         ensures { TakesField result (field (numeral_of Number32) self.old) self.new }
     {
-        read_u32(self.word()?)
+        as_small(self.digits()?)
     }
 
     /// An object.
