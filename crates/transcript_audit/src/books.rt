@@ -184,6 +184,15 @@ impl Books {
         }
     }
 
+    /// Notes what no rule looks at.
+    #[inline(always)]
+    #[tactic(auto, using(crate::proofs::Keeping::nothing_kept))]
+    pub(crate) fn note_nothing(&mut self)
+        ensures { Notes self.old facts.Nothing self.new }
+    {
+        self.refused = None;
+    }
+
     /// Notes what came.
     pub(crate) fn note(&mut self, fact: Fact) -> Result<(), Memory>
         ensures { OnOk result (Notes self.old fact self.new) }

@@ -5,7 +5,7 @@ ghost use Rattle.transcript_lines.specs.Lines.{line_of};
 ghost use Rattle.transcript_lines.specs.Sayings.{said_of};
 ghost use Rattle.transcript_audit.specs.declared.stage.Stage.TheVariants as stages;
 ghost use Rattle.transcript_audit.specs.declared.stop.Stop.TheVariants as stop;
-ghost use Rattle.transcript_audit.specs.Courses.{noted, at_stage, with_rows, with_fact, with_said, after_header, kept_after};
+ghost use Rattle.transcript_audit.specs.Courses.{noted, at_stage, with_rows, unless_broken, with_fact, with_said, after_header, kept_after};
 
 use crate::books::Books;
 use crate::stage::Stage;
@@ -32,7 +32,7 @@ pub(crate) fn broken(line: u64, rule: u32) -> Result<(), Stop>
 }
 
 impl Audit {
-    ghost use Rattle.transcript_audit.specs.Audits.{kept_of, fresh, Goes};
+    ghost use Rattle.transcript_audit.specs.Audits.{breach_of, kept_of, fresh, Goes};
 
     /// An audit before the first line. It takes no memory.
     #[tactic(auto, using(crate::proofs::LineSteps::begins))]
@@ -61,7 +61,32 @@ impl Audit {
         Ok(())
     }
 
+    /// Notes what no rule looks at. Most lines are such.
+    #[inline(always)]
+    #[tactic(auto, using(crate::proofs::LineSteps::kept_noted))]
+    fn note_nothing(&mut self)
+        ensures noted { kept_of self.new ≡ noted (kept_of self.old) Fact.Nothing }
+        ensures lines { self.new.lines ≡ self.old.lines }
+        ensures rows { self.new.rows ≡ self.old.rows }
+    {
+        self.books.note_nothing();
+    }
+
+    /// Takes what a rule looks at.
+    #[inline(never)]
+    fn take_telling(&mut self, number: u64, fact: Fact) -> Result<(), Stop>
+        ensures taken { Goes (unless_broken (breach_of self.old.books fact) (noted (kept_of self.old) fact)) number self.new result }
+        ensures lines { self.new.lines ≡ self.old.lines }
+        ensures rows { self.new.rows ≡ self.old.rows }
+    {
+        if let Some(rule) = self.books.broken(fact) {
+            return broken(number, rule);
+        }
+        self.note(fact)
+    }
+
     /// Takes an event or a question.
+    #[inline(always)]
     #[tactic(auto, using(crate::proofs::LineSteps::behind_none, crate::proofs::LineSteps::behind_some))]
     fn take_fact(&mut self, number: u64, fact: Fact) -> Result<(), Stop>
         ensures taken { Goes (with_fact (kept_of self.old) fact (noted (kept_of self.old) fact)) number self.new result }
@@ -71,10 +96,13 @@ impl Audit {
         if self.rows != 0 {
             return broken(number, 0);
         }
-        if let Some(rule) = self.books.broken(fact) {
-            return broken(number, rule);
+        match fact {
+            Fact::Nothing => {
+                self.note_nothing();
+                Ok(())
+            }
+            _ => self.take_telling(number, fact),
         }
-        self.note(fact)
     }
 
     /// Takes the end of a report of so many rows.
