@@ -43,51 +43,86 @@ fn read_fired(mut words: Words) -> Option<Said>
     }
 }
 
-/// What follows this word.
-fn read_event_end(word: EventWord, mut words: Words) -> Option<Said>
-    ensures { result ≡ says_by (event_end word) words.entry }
+/// A reference is no more.
+fn read_unreferenced(mut words: Words) -> Option<Said>
+    ensures { result ≡ says_by (event_end EventWord.Unreferenced) words.entry }
 {
-    match word {
+    let reference = words.object()?;
+    let target = words.object()?;
+    words.end()?;
+    Some(Said::Tells(Fact::Drops(reference, target)))
+}
+
+/// A destructor has accepted.
+fn read_accepted(mut words: Words) -> Option<Said>
+    ensures { result ≡ says_by (event_end EventWord.Accepted) words.entry }
+{
+    let x = words.object()?;
+    words.end()?;
+    Some(Said::Tells(Fact::Accepts(x)))
+}
+
+/// A destructor has refused.
+fn read_refused(mut words: Words) -> Option<Said>
+    ensures { result ≡ says_by (event_end EventWord.Refused) words.entry }
+{
+    let x = words.object()?;
+    let answer = words.small()?;
+    words.end()?;
+    Some(Said::Tells(Fact::Refuses(x, answer)))
+}
+
+/// An object has another owner.
+fn read_moved(mut words: Words) -> Option<Said>
+    ensures { result ≡ says_by (event_end EventWord.Moved) words.entry }
+{
+    let x = words.object()?;
+    let owner = words.owner()?;
+    words.end()?;
+    Some(Said::Tells(Fact::Moves(x, owner)))
+}
+
+/// An object with references was given to another owner.
+fn read_warned(mut words: Words) -> Option<Said>
+    ensures { result ≡ says_by (event_end EventWord.Warned) words.entry }
+{
+    let x = words.object()?;
+    words.end()?;
+    Some(Said::Tells(Fact::Uses(x)))
+}
+
+/// A descriptor was closed.
+fn read_closed(mut words: Words) -> Option<Said>
+    ensures { result ≡ says_by (event_end EventWord.Closed) words.entry }
+{
+    words.small()?;
+    words.end()?;
+    Some(Said::Tells(Fact::Nothing))
+}
+
+/// A request is in another state.
+fn read_state(mut words: Words) -> Option<Said>
+    ensures { result ≡ says_by (event_end EventWord.State) words.entry }
+{
+    let x = words.object()?;
+    let state = words.small()?;
+    words.end()?;
+    Some(Said::Tells(Fact::Sets(x, state)))
+}
+
+/// What follows this word.
+fn read_event_end(head: EventWord, words: Words) -> Option<Said>
+    ensures { result ≡ says_by (event_end head) words.entry }
+{
+    match head {
         EventWord::Fired => read_fired(words),
-        EventWord::Unreferenced => {
-            let reference = words.object()?;
-            let target = words.object()?;
-            words.end()?;
-            Some(Said::Tells(Fact::Drops(reference, target)))
-        }
-        EventWord::Accepted => {
-            let x = words.object()?;
-            words.end()?;
-            Some(Said::Tells(Fact::Accepts(x)))
-        }
-        EventWord::Refused => {
-            let x = words.object()?;
-            let answer = words.small()?;
-            words.end()?;
-            Some(Said::Tells(Fact::Refuses(x, answer)))
-        }
-        EventWord::Moved => {
-            let x = words.object()?;
-            let owner = words.owner()?;
-            words.end()?;
-            Some(Said::Tells(Fact::Moves(x, owner)))
-        }
-        EventWord::Warned => {
-            let x = words.object()?;
-            words.end()?;
-            Some(Said::Tells(Fact::Uses(x)))
-        }
-        EventWord::Closed => {
-            words.small()?;
-            words.end()?;
-            Some(Said::Tells(Fact::Nothing))
-        }
-        EventWord::State => {
-            let x = words.object()?;
-            let state = words.small()?;
-            words.end()?;
-            Some(Said::Tells(Fact::Sets(x, state)))
-        }
+        EventWord::Unreferenced => read_unreferenced(words),
+        EventWord::Accepted => read_accepted(words),
+        EventWord::Refused => read_refused(words),
+        EventWord::Moved => read_moved(words),
+        EventWord::Warned => read_warned(words),
+        EventWord::Closed => read_closed(words),
+        EventWord::State => read_state(words),
         EventWord::End => read_question(true, words),
     }
 }
@@ -97,7 +132,7 @@ pub(crate) fn read_event(word: &[u8], words: Words) -> Option<Said>
     ensures { result ≡ says_by event_form (word.now ∷ words.entry) }
 {
     match event_word(word) {
-        Some(event) => read_event_end(event, words),
+        Some(head) => read_event_end(head, words),
         None => None,
     }
 }

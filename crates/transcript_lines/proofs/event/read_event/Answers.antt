@@ -9,7 +9,7 @@ use Rattle.transcript_lines.proofs.event.read_event.Goals as goal
 pub returns-in-Some : goal.returns-in-Some
 returns-in-Some c =
     c.read_event_end.ensures
-    ∙ ap (option_map said_of) (sym (event_read c.in-Some.event c.args.words))
+    ∙ ap (option_map said_of) (sym (event_read c.in-Some.head c.args.words))
     ∙ ap (λ (w : List ℕ). says_by event_form (w ∷ c.args.words)) (sym c.in-Some.ensures)
 
 pub returns-in-None : goal.returns-in-None
