@@ -1,6 +1,6 @@
 -- What is kept goes on by a line as the course of the items does.
 use std.Path.{fun_ext}
-use Rattle.std.proofs.Common.{◌≡◌, ◌≢◌, ℕ, zero, suc, ◌+◌, ◌<◌, ◌≤◌, Bool, true, false, cond, eqb, ltb, ◌||◌, not, List, [], ◌∷◌, ◌++◌, length, Option, Some, None, Result, Ok, Err, refl, sym, ap, ◌∙◌, arith, length-append}
+use Rattle.std.proofs.Common.{◌≡◌, ℕ, ◌+◌, Bool, true, false, cond, eqb, ltb, ◌||◌, not, List, [], ◌∷◌, ◌++◌, length, Option, Some, None, Result, Ok, Err, refl, sym, ap, ◌∙◌, arith, length-append}
 use Rattle.std.specs.Option.{option_map}
 use Rattle.std.specs.Str.{bytes_eq}
 use Rattle.tree_specs.specs.declared.object.Obj.{Obj}
@@ -11,7 +11,6 @@ use Rattle.tree_specs.specs.Rules.Items.{Item}
 use Rattle.tree_specs.specs.Rules.Items.Item.{Told, Asked}
 use Rattle.tree_specs.specs.Texts.Lines.{lines, lines_limit}
 use Rattle.tree_specs.specs.Texts.Lines as cut
-use Rattle.transcript_lines.specs.declared.said.Fact.{Fact}
 use Rattle.transcript_lines.specs.Lines.{Line, line_of}
 use Rattle.transcript_lines.specs.Lines.Line.{Row, Rows, Tells, Asks, Ends}
 use Rattle.transcript_lines.specs.Sayings.{said_of}
@@ -20,9 +19,9 @@ use Rattle.audit_rules.specs.Flaws.{Course, with_item, with_line, going_on, tran
 use Rattle.audit_rules.specs.Flaws as rules
 use Rattle.audit_rules.specs.Flaws.Course.{Header as AtHeader, Body as InBody, Over as AtEnd}
 use Rattle.transcript_audit.specs.declared.seen.Seen.{Seen}
-use Rattle.transcript_audit.specs.declared.stage.Stage.TheVariants.{Header, Body, Over}
+use Rattle.transcript_audit.specs.declared.stage.Stage.TheVariants.{Body, Over}
 use Rattle.transcript_audit.specs.declared.stage.Stage.{Stage}
-use Rattle.transcript_audit.specs.Kept.{fact_of, seen_in, last_refusal, seen_after, refusal_after, breach}
+use Rattle.transcript_audit.specs.Kept.{fact_of, seen_in, last_refusal, seen_after, refusal_after}
 use Rattle.transcript_audit.specs.Courses.{Kept, noted, at_stage, with_rows, unless_broken, with_fact, with_said, after_header, kept_after, flaw_or, flaw_by}
 use Rattle.transcript_audit.specs.Audits.{fresh}
 use Rattle.transcript_audit.proofs.Seeing.{seen_more, refusal_more, breach_is}

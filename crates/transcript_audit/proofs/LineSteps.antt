@@ -1,7 +1,6 @@
 -- An audit takes a line, or ends there.
 use std.Path.{fun_ext}
-use Rattle.std.proofs.Common.{◌≡◌, ◌≢◌, ℕ, zero, suc, ◌+◌, ◌<◌, ◌≤◌, Bool, true, false, cond, ltb, ◌||◌, not, List, [], ◌∷◌, length, Option, Some, None, Result, Ok, Err, refl, sym, ap, ◌∙◌, arith}
-use Rattle.std.specs.Option.{option_map}
+use Rattle.std.proofs.Common.{◌≡◌, ◌≢◌, ℕ, zero, suc, ◌+◌, ◌<◌, ◌≤◌, Bool, true, false, cond, ltb, ◌||◌, not, List, ◌∷◌, length, Option, Some, None, Result, Ok, Err, refl, sym, ap, arith}
 use Rattle.std.specs.Str.{bytes_eq}
 use Rattle.std.proofs.lemmas.Bool.Decides.{nat_tests}
 use Rattle.std.proofs.lemmas.Slice.Eq.{bytes_eq-Decides}
@@ -10,21 +9,17 @@ use Rattle.tree_specs.specs.Texts.Lines.{Line, is_over_limit, line_limit, lines_
 use Rattle.line_pieces.specs.Cuts.{ended_line}
 use Rattle.line_pieces.specs.Takings.{last_lines}
 use Rattle.transcript_lines.specs.declared.said.Fact.{Fact}
-use Rattle.transcript_lines.specs.Lines.{line_of}
-use Rattle.transcript_lines.specs.Sayings.{said_of}
 use Rattle.transcript_lines.proofs.Lengths.{too_long}
-use Rattle.audit_rules.specs.Flaws.{transcript_header, Verdict, verdict_by}
+use Rattle.audit_rules.specs.Flaws.{transcript_header, verdict_by}
 use Rattle.audit_rules.specs.Flaws.Verdict.{Orderly, Broken}
-use Rattle.transcript_audit.specs.declared.seen.Seen.{Seen}
-use Rattle.transcript_audit.specs.declared.books.Books.{Books}
 use Rattle.transcript_audit.specs.declared.course.Audit.{Audit}
 use Rattle.transcript_audit.specs.declared.stage.Stage.{Stage}
 use Rattle.transcript_audit.specs.declared.stage.Stage.TheVariants.{Header, Body, Over}
 use Rattle.transcript_audit.specs.declared.stop.Stop.{Stop}
 use Rattle.transcript_audit.specs.declared.stop.Stop.TheVariants as stop
 use Rattle.transcript_audit.specs.Kept.{seen_after}
-use Rattle.transcript_audit.specs.Courses.{Kept, noted, behind_rows, with_said, at_line, kept_after, flaw_or, flaw_at_end, flaw_by}
-use Rattle.transcript_audit.specs.Audits.{seen_of, nothing_seen, Notes, kept_of, fresh, Goes, comes, IsReady, StopsWith}
+use Rattle.transcript_audit.specs.Courses.{Kept, noted, behind_rows, at_line, kept_after, flaw_or, flaw_at_end, flaw_by}
+use Rattle.transcript_audit.specs.Audits.{seen_of, nothing_seen, Notes, kept_of, fresh, Goes, comes, StopsWith}
 
 -- ---- what is kept
 

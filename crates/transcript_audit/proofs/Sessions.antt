@@ -1,19 +1,17 @@
 -- Auditing what a source gives, piece by piece.
-use Rattle.std.proofs.Common.{◌≡◌, ℕ, ◌+◌, List, [], ◌∷◌, ◌++◌, length, Option, Some, None, Result, Ok, Err, refl, sym, ap, subst, ◌∙◌, append_assoc, arith}
+use Rattle.std.proofs.Common.{◌≡◌, ℕ, ◌+◌, List, [], ◌++◌, length, Option, Some, None, Result, Ok, Err, sym, ap, ◌∙◌, append_assoc, arith}
 use Rattle.std.specs.Prelude.{IfSome}
 use Rattle.std.specs.Io.KnownBytes.{Consumes, IsAtEnd}
 use Rattle.std.proofs.KnownBytes.{Consumes-nil, Consumes-trans}
 use Rattle.std.proofs.lemmas.List.{append-nil}
 use Rattle.tree_specs.specs.Texts.Lines.{lines}
-use Rattle.line_pieces.specs.Readings.{Reading, from_line, found_now, Advances, Takes}
-use Rattle.line_pieces.specs.Takings.{EndsWith}
+use Rattle.line_pieces.specs.Readings.{Reading, from_line, found_now, Takes}
 use Rattle.audit_rules.specs.Flaws.{Verdict, verdict, verdict_by}
-use Rattle.audit_rules.specs.Flaws.Verdict.{Orderly, Broken}
 use Rattle.transcript_audit.specs.declared.course.Audit.{Audit}
 use Rattle.transcript_audit.specs.declared.stop.Stop.{Stop}
 use Rattle.transcript_audit.specs.declared.stop.Stop.TheVariants as stop
 use Rattle.transcript_audit.specs.Courses.{Kept, flaw_by}
-use Rattle.transcript_audit.specs.Audits.{kept_of, fresh, comes, StopsWith, stops, ends}
+use Rattle.transcript_audit.specs.Audits.{kept_of, fresh, comes, StopsWith, stops}
 use Rattle.transcript_audit.specs.Outcomes.{audited_of, Finds}
 use Rattle.transcript_audit.specs.Passes.{IsFresh, PassesEnd}
 use Rattle.transcript_audit.proofs.Going.{verdict_is}

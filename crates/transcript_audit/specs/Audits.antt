@@ -1,5 +1,5 @@
 -- An audit in the midst of its transcript.
-use Rattle.std.specs.Prelude.{◌≡◌, ℕ, ◌+◌, ◌≤◌, nat_eq, List, [], Option, Some, None, Result, Ok, Err, false, length, ⊤}
+use Rattle.std.specs.Prelude.{◌≡◌, ℕ, ◌+◌, ◌≤◌, nat_eq, List, Option, Some, None, Result, Ok, Err, false, length, ⊤}
 use Rattle.indexmap.specs.IndexMap.{get}
 use Rattle.tree_specs.specs.declared.object.Obj.{Obj}
 use Rattle.tree_specs.specs.Texts.Lines.{Line}

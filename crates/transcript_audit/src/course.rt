@@ -3,9 +3,8 @@ ghost use Rattle.std.specs.Prelude.{◌≡◌, ◌<◌, ◌≤◌, ◌+◌, OnOk
 ghost use Rattle.std.specs.Option.{option_map};
 ghost use Rattle.transcript_lines.specs.Lines.{line_of};
 ghost use Rattle.transcript_lines.specs.Sayings.{said_of};
-ghost use Rattle.transcript_audit.specs.declared.stage.Stage.TheVariants as stages;
 ghost use Rattle.transcript_audit.specs.declared.stop.Stop.TheVariants as stop;
-ghost use Rattle.transcript_audit.specs.Courses.{noted, at_stage, with_rows, unless_broken, with_fact, with_said, after_header, kept_after};
+ghost use Rattle.transcript_audit.specs.Courses.{noted, with_rows, unless_broken, with_fact, with_said, after_header, kept_after};
 
 use crate::books::Books;
 use crate::stage::Stage;
