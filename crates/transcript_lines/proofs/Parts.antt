@@ -93,7 +93,7 @@ read_again _ ps l h e = absurd cc
 
 -- ---- from a line to parts
 
--- the words are the words_of of sound parts, of which the line is made
+-- the words are those of sound parts, of which the line is made
 pub record IsFed (form : Form) (ws : List (List ℕ)) (l : Line) : Type 0 where
   pub parts : List Part
   pub words_are : ws ≡ words_of parts

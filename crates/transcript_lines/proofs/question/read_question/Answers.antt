@@ -1,6 +1,6 @@
 use Rattle.std.proofs.Common.{List, ℕ, ◌∙◌, ◌∷◌, sym, ap}
 use Rattle.std.specs.Option.{option_map}
-use Rattle.transcript_lines.specs.Lines.{read, moment_form, outside_form}
+use Rattle.transcript_lines.specs.Lines.{moment_form, outside_form}
 use Rattle.transcript_lines.specs.Readings.{says_by, line_by, quiet_form, question_form}
 use Rattle.transcript_lines.specs.Sayings.{said_of}
 use Rattle.transcript_lines.proofs.Tables.{what_read}
