@@ -93,7 +93,7 @@ read_again _ ps l h e = absurd cc
 
 -- ---- from a line to parts
 
--- the words are the words_of of sound parts, of which the line is made
+-- the words are those of sound parts, of which the line is made
 pub record IsFed (form : Form) (ws : List (List ℕ)) (l : Line) : Type 0 where
   pub parts : List Part
   pub words_are : ws ≡ words_of parts
@@ -109,7 +109,7 @@ one_more p form next word more l is sound feeds rest = record {
 }
 
 -- a field was read, and this was made of its value and of the words after it
-has_field : {A B : Type 0} {reader : List ℕ → Option A} {spell : A → List ℕ} {is_sound : A → Bool} (field : IsField reader spell is_sound) (word : List ℕ) (more : List (List ℕ)) (after : A → List (List ℕ) → Option B) (result : B)
+pub has_field : {A B : Type 0} {reader : List ℕ → Option A} {spell : A → List ℕ} {is_sound : A → Bool} (field : IsField reader spell is_sound) (word : List ℕ) (more : List (List ℕ)) (after : A → List (List ℕ) → Option B) (result : B)
     → (((reader word) leaving more) >>= λ x. after x.0 x.1) ≡ Some result → HasRead spell is_sound word (λ x. after x more) result
 has_field {A} {B} {reader} field word more after result e = has_read field word (λ x. after x more) result (sym (then_after (reader word)) ∙ e)
   where

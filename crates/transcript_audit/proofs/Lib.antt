@@ -1,0 +1,5 @@
+pub mod Keeping
+pub mod Seeing
+pub mod Going
+pub mod LineSteps
+pub mod Sessions
