@@ -3,3 +3,4 @@ pub mod Seeing
 pub mod Going
 pub mod LineSteps
 pub mod Sessions
+pub mod Findings

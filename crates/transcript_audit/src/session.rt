@@ -1,10 +1,12 @@
 //! The audit of what a source gives.
-ghost use Rattle.std.specs.Prelude.{◌≡◌, Err, IfSome};
-ghost use Rattle.outside.specs.Causes.{Counts};
+ghost use Rattle.std.specs.Prelude.{◌≡◌, ◌⊎◌, ℕ, Err, IfSome, None, length};
+ghost use Rattle.audit_rules.specs.Flaws.{flaw};
+ghost use Rattle.tree_specs.specs.Texts.Lines.{lines};
+ghost use Rattle.outside.specs.Causes.{Counts, Rose};
 ghost use Rattle.line_pieces.specs.Readings.{IsBetweenBytes};
 ghost use Rattle.line_pieces.specs.States.{reading_of};
 ghost use Rattle.transcript_audit.specs.Audits.{IsReady};
-ghost use Rattle.transcript_audit.specs.Outcomes.{audited_of, Finds};
+ghost use Rattle.transcript_audit.specs.Outcomes.{audited_of, Finds, HasFlaw, IsOrderlyTranscript};
 ghost use Rattle.transcript_audit.specs.Passes.{IsFresh, PassesEnd};
 
 use crate::audited::{Audited, ending};
@@ -58,7 +60,13 @@ fn run<S: Source>(alloc: Global, input: &mut S) -> Result<u64, Stop>
 pub fn audit<S: Source>(alloc: Global, input: &mut S) -> Audited
     // Orderly comes only where no line has a flaw, and with the number of lines; Broken is the first line with a flaw.
     ensures found { IfSome (S.left input.old) (λ bytes. Finds bytes result) }
+    // So the bytes are the transcript of an orderly story, or the lines before the flawed one begin such a transcript.
+    ensures orderly { (lines : ℕ) → result ≡ Audited.Orderly lines → IfSome (S.left input.old) (λ bytes. IsOrderlyTranscript bytes lines) }
+    ensures broken { (line rule : ℕ) → result ≡ Audited.Broken line rule → IfSome (S.left input.old) (λ bytes. HasFlaw bytes line rule) }
     ensures read { Counts (S.faults input.old) (S.faults input.new) (result ≡ Audited.ReadFault) }
+    // Where no line has a flaw and no fault was counted, that is said, or memory ran out.
+    ensures complete { IfSome (S.left input.old) (λ bytes. flaw bytes ≡ None → (Rose (S.faults input.old) (S.faults input.new) → ⊥)
+        → (result ≡ Audited.Orderly (length (lines bytes))) ⊎ (result ≡ Audited.Memory)) }
 {
     ending(run(alloc, input))
 }
