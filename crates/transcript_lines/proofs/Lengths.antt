@@ -28,13 +28,13 @@ use Rattle.tree_specs.specs.Words.Octets.{is_octets}
 use Rattle.tree_specs.specs.Words.Ranges.{is_number, is_in, is_sound_owner}
 use Rattle.text_forms.specs.Bytes.{are_bytes}
 use Rattle.text_forms.proofs.Bools.{and_true}
+use Rattle.text_forms.proofs.Calls.{has_field}
 use Rattle.text_forms.proofs.Fields.{numeral_field, owner_field, object_field, name_field}
 use Rattle.text_forms.proofs.Hexadecimal.{is_sound_octets, octets_field}
 use Rattle.text_forms.proofs.Words.{joined, joined-words}
 use Rattle.transcript_lines.specs.Lines.{Line, Form, read, a_what, row_end, row_form, refusal_form, numbers_form, reply_form, moment_form, outside_form, ask_form, end_form, fired_end, event_form, line_form, line_of}
 use Rattle.transcript_lines.specs.Lines.Line.{Asks, Ends}
 use Rattle.transcript_lines.specs.Lines.Form.{Fails, Done, IfWord, MayEnd, TakesNumeral, TakesObject, TakesOwner, EndsInName, EndsInBytes}
-use Rattle.transcript_lines.proofs.Parts.{has_field}
 
 -- ---- words, each with a byte behind it
 
