@@ -27,6 +27,10 @@ impl TakesLines for Audit {
         Ok(())
     }
 
+    fn is_full(&self) -> bool {
+        false
+    }
+
     fn refuse_limit(&mut self, number: u64) -> Stop {
         Stop::Broken {
             line: number,
