@@ -8,7 +8,9 @@ use tree_specs::Reason;
 mod schedules;
 mod transcripts;
 
-use schedules::{CHILD_REFUSES, Exchange, OWNER_FREED, REQUESTS, TWO_CLIENTS};
+use schedules::{
+    CHILD_REFUSES, EACH_OTHER, Exchange, HEIR_INSIDE, OWNER_FREED, REQUESTS, TWO_CLIENTS,
+};
 use transcripts::{Transcript, schedule, whole_lines};
 
 /// How many bytes a read gives.
@@ -73,6 +75,15 @@ fn ended(alloc: Global, table: &[Exchange], lines: usize) -> Result<Transcript, 
     Ok(transcript)
 }
 
+// The schedules whose reads and puts fail.
+const TABLES: [&[Exchange]; 5] = [
+    CHILD_REFUSES,
+    EACH_OTHER,
+    HEIR_INSIDE,
+    REQUESTS,
+    TWO_CLIENTS,
+];
+
 // Each read fails in turn, up to the one that would find the end.
 fn fails_each_read(rt: &impl Abort, alloc: Global, table: &[Exchange]) -> Result<(), Fail> {
     let bytes = schedule(alloc, table)?;
@@ -91,7 +102,7 @@ fn fails_each_read(rt: &impl Abort, alloc: Global, table: &[Exchange]) -> Result
 
 #[test]
 fn each_read_that_fails_leaves_what_whole_lines_tell(rt: HostRuntime) -> Result<(), Fail> {
-    for table in [CHILD_REFUSES, REQUESTS, TWO_CLIENTS] {
+    for table in TABLES {
         fails_each_read(&rt, rt.alloc(), table)?;
     }
     Ok(())
@@ -123,7 +134,7 @@ fn fails_each_put(rt: &impl Abort, alloc: Global, table: &[Exchange]) -> Result<
 
 #[test]
 fn each_put_that_fails_leaves_what_was_put_before(rt: HostRuntime) -> Result<(), Fail> {
-    for table in [CHILD_REFUSES, REQUESTS, TWO_CLIENTS] {
+    for table in TABLES {
         fails_each_put(&rt, rt.alloc(), table)?;
     }
     Ok(())

@@ -36,6 +36,42 @@ pub(super) const OWNER_FREED: &[Exchange] = &[
     ("ret 0", "accepted 2\nfreed 2 16\nreply ok\n", "quiet"),
 ];
 
+/// Two destructors free each other's object, and one of them moves the other one's.
+pub(super) const EACH_OTHER: &[Exchange] = &[
+    ("tv schedule 1 pool", "tv transcript 1\n", "quiet"),
+    ("call new 0 0 a", "reply 1\n", "quiet"),
+    ("call new 0 0 b", "reply 2\n", "quiet"),
+    ("call hook 1 16", "reply ok\n", "quiet"),
+    ("call hook 2 17", "reply ok\n", "quiet"),
+    ("call free 1", "", "hook 1 16 0 0 0 0"),
+    ("act free 2", "", "hook 2 17 0 0 0 0"),
+    ("act free 1", "reply no 3 1\n", "hook 2 17 0 0 0 1"),
+    ("act steal 2 1", "reply ok\n", "hook 2 17 0 0 0 2"),
+    (
+        "ret 0",
+        "accepted 2\nmoved 1 0\nfreed 2 17\nreply ok\n",
+        "hook 1 16 0 0 0 1",
+    ),
+    ("ret 0", "accepted 1\nfreed 1 16\nreply ok\n", "quiet"),
+];
+
+/// The heir of a child has come to stand inside it before its destructor refuses.
+pub(super) const HEIR_INSIDE: &[Exchange] = &[
+    ("tv schedule 1 pool", "tv transcript 1\n", "quiet"),
+    ("call new 0 0 g", "reply 1\n", "quiet"),
+    ("call new 1 0 p", "reply 2\n", "quiet"),
+    ("call new 2 0 c", "reply 3\n", "quiet"),
+    ("call hook 3 16", "reply ok\n", "quiet"),
+    ("call free 2", "", "hook 3 16 0 0 0 0"),
+    ("act steal 3 1", "reply ok\n", "hook 3 16 0 0 0 1"),
+    (
+        "ret 1",
+        "refused 3 1\nmoved 3 0\nfreed 2 0\nreply ok\n",
+        "quiet",
+    ),
+    ("call parent 1", "reply 3\n", "quiet"),
+];
+
 /// Requests are done, fail, are freed by their own cleanup, and time out.
 pub(super) const REQUESTS: &[Exchange] = &[
     ("tv schedule 1 pool", "tv transcript 1\n", "quiet"),
