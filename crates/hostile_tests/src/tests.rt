@@ -86,7 +86,7 @@ const TABLES: [&[Exchange]; 5] = [
 
 // Each read fails in turn, up to the one that would find the end.
 fn fails_each_read(rt: &impl Abort, alloc: Global, table: &[Exchange]) -> Result<(), Fail> {
-    let bytes = schedule(alloc, table)?;
+    let bytes = schedule(alloc, table, table.len())?;
     for before in 0..=bytes.len().div_ceil(READ_LEN as usize) {
         let given = before.saturating_mul(READ_LEN as usize).min(bytes.len());
         let told = Transcript::of(alloc, table, whole_lines(&bytes[..given]))?;
@@ -110,7 +110,7 @@ fn each_read_that_fails_leaves_what_whole_lines_tell(rt: HostRuntime) -> Result<
 
 // Each put fails in turn, and each takes one byte. At last none does.
 fn fails_each_put(rt: &impl Abort, alloc: Global, table: &[Exchange]) -> Result<(), Fail> {
-    let bytes = schedule(alloc, table)?;
+    let bytes = schedule(alloc, table, table.len())?;
     let transcript = ended(alloc, table, table.len())?;
     let whole = transcript.text();
     for before in 0..whole.len() {
@@ -144,7 +144,7 @@ fn each_put_that_fails_leaves_what_was_put_before(rt: HostRuntime) -> Result<(),
 fn a_schedule_that_is_cut_ends_with_a_line_or_is_refused_there(
     rt: HostRuntime,
 ) -> Result<(), Fail> {
-    let bytes = schedule(rt.alloc(), OWNER_FREED)?;
+    let bytes = schedule(rt.alloc(), OWNER_FREED, OWNER_FREED.len())?;
     for cut in 0..=bytes.len() {
         let front = &bytes[..cut];
         let answer = replays(rt.alloc(), front, NONE)?;
@@ -176,8 +176,8 @@ fn cut_ends(rt: &impl Abort, alloc: Global, front: &[u8], answer: &Answer) -> Re
     Ok(())
 }
 
-// Where the first line that tells of a connection's bytes or end is `fault` instead, and so on for each such line in
-// turn: what comes of it, and the question that is open then. The connection's session is freed, with all that is inside.
+// What comes of a `fault` in the place of each line of the two clients' schedule that tells of a connection's bytes or end,
+// and the question that is open then. The connection's session is freed, with all that is inside.
 const FAULTS: &[(&str, &str)] = &[
     // nothing was made yet
     (
@@ -216,17 +216,17 @@ const FAULTS: &[(&str, &str)] = &[
     ),
 ];
 
-// The connection fails in place of this line of the two clients' schedule, which ends there.
+// The connection fails in the place of the line behind the first ones of the two clients' schedule, which ends there.
 fn fails_at(
     rt: &impl Abort,
     alloc: Global,
-    line: usize,
+    lines: usize,
     told: &str,
     question: &'static str,
 ) -> Result<(), Fail> {
-    let mut bytes = schedule(alloc, &TWO_CLIENTS[..line])?;
+    let mut bytes = schedule(alloc, TWO_CLIENTS, lines)?;
     bytes.extend_from_slice(b"fault\n")?;
-    let mut transcript = Transcript::of(alloc, TWO_CLIENTS, line)?;
+    let mut transcript = Transcript::of(alloc, TWO_CLIENTS, lines)?;
     transcript.add(told, question)?;
     transcript.end()?;
     let answer = replays(alloc, &bytes, NONE)?;
@@ -237,10 +237,10 @@ fn fails_at(
 #[test]
 fn a_connection_that_fails_is_freed_with_its_session(rt: HostRuntime) -> Result<(), Fail> {
     let mut faults = FAULTS.iter();
-    for (place, (line, _, _)) in TWO_CLIENTS.iter().enumerate() {
+    for (before, (line, _, _)) in TWO_CLIENTS.iter().enumerate() {
         if line.starts_with("got") || line.starts_with("wrote") || *line == "end" {
             let (told, question) = faults.next().expect(&rt, "a fault for each line");
-            fails_at(&rt, rt.alloc(), place, told, question)?;
+            fails_at(&rt, rt.alloc(), before, told, question)?;
         }
     }
     assert!(rt; faults.next().is_none(), "a line for each fault");

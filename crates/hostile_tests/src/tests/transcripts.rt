@@ -3,10 +3,10 @@ use super::schedules::Exchange;
 use std::alloc::Global;
 use tree_specs::Memory;
 
-/// The schedule of these lines.
-pub(super) fn schedule(alloc: Global, table: &[Exchange]) -> Result<Vec<u8>, Memory> {
+/// The schedule of the first lines of a table.
+pub(super) fn schedule(alloc: Global, table: &[Exchange], lines: usize) -> Result<Vec<u8>, Memory> {
     let mut bytes = Vec::new(alloc);
-    for (line, _, _) in table {
+    for (line, _, _) in table.iter().take(lines) {
         bytes.extend_from_slice(line.as_bytes())?;
         bytes.push(b'\n')?;
     }
