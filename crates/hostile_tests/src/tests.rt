@@ -1,3 +1,4 @@
+//! What each kind of failing end leaves of a replay.
 use host_app::{Status, host_main};
 use outside::{MemClock, MemLink, MemRoutines, MemSink, MemSource};
 use std::alloc::Global;
