@@ -21,7 +21,8 @@ import sys
 import tempfile
 import time
 
-CLIENTS = {'ordinary': 350, 'garbage': 150, 'long lines': 50, 'byte by byte': 150, 'close at once': 100, 'half closed': 100, 'never read': 100}
+CLIENTS = {'ordinary': 350, 'garbage': 150, 'long lines': 50, 'byte by byte': 150, 'close at once': 100, 'half closed': 100,
+           'never read': 100}
 MEGABYTE = 1 << 20
 LATEST_REPLY = 10.0  # seconds
 # Whoever has closed comes back after so many seconds, which makes one in a second. A turn of the loop takes one event, so of
@@ -175,13 +176,14 @@ async def client(fire, kind):
             fire.check(False, f'{kind}: {why}')
         finally:
             writer.close()
-        await asyncio.sleep(random.uniform(*BACK_AFTER))
+        if fire.goes_on():
+            await asyncio.sleep(random.uniform(*BACK_AFTER))
 
 
 def memory_kib(pid):
-    """The most memory that the process has had."""
+    """The most memory that the process has had, and 0 where it has ended."""
     with open(f'/proc/{pid}/status') as file:
-        return int(next(line.split()[1] for line in file if line.startswith('VmHWM:')))
+        return int(next((line.split()[1] for line in file if line.startswith('VmHWM:')), 0))
 
 
 def processor_seconds(pid):
@@ -240,7 +242,7 @@ def run(program, seconds, folder):
         server.kill()
         ended = server.wait()
     if ended != -signal.SIGKILL:
-        fire.wrong.append(f'the server ended by itself with {ended}')
+        fire.wrong.insert(0, f'the server ended by itself with {ended}')
     lines, told, cut, wrong = replay(program, record)
     fire.wrong += wrong
     fire.delays.sort()

@@ -235,11 +235,16 @@ fn fails_at(
     Ok(())
 }
 
+// Whether a line tells of a connection's bytes or end.
+fn is_of_connection(line: &str) -> bool {
+    line.starts_with("got ") || line.starts_with("wrote ") || line == "end"
+}
+
 #[test]
 fn a_connection_that_fails_is_freed_with_its_session(rt: HostRuntime) -> Result<(), Fail> {
     let mut faults = FAULTS.iter();
     for (before, (line, _, _)) in TWO_CLIENTS.iter().enumerate() {
-        if line.starts_with("got") || line.starts_with("wrote") || *line == "end" {
+        if is_of_connection(line) {
             let (told, question) = faults.next().expect(&rt, "a fault for each line");
             fails_at(&rt, rt.alloc(), before, told, question)?;
         }
