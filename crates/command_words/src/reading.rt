@@ -119,10 +119,16 @@ fn command_line<'a>(alloc: Global) -> Result<clap::Command<'a>, AllocError>
         "replay",
         "Reads a schedule from standard input, and writes its transcript",
     );
+    let audit = command(
+        alloc,
+        "audit",
+        "Reads a transcript from standard input, and says whether its story is orderly",
+    );
     let serve = serve(alloc)?;
     let load = load(alloc)?;
     top(alloc)?
         .subcommand(replay)?
+        .subcommand(audit)?
         .subcommand(serve)?
         .subcommand(load)
 }
@@ -180,6 +186,7 @@ fn command_met<'a>(matches: &ArgMatches<'a>) -> Option<Command<'a>>
     let (name, fields) = matches.subcommand()?;
     match name {
         "replay" => Some(Command::Replay),
+        "audit" => Some(Command::Audit),
         "serve" => serve_in(fields),
         _ => load_in(fields),
     }

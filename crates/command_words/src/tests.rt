@@ -20,6 +20,7 @@ Usage: tvhost <COMMAND>
 
 Commands:
   replay  Reads a schedule from standard input, and writes its transcript
+  audit   Reads a transcript from standard input, and says whether its story is orderly
   serve   Serves lines at a Unix socket, and writes the schedule that it served
   load    Replays a schedule made from a number, and writes a summary
   help    Print this message or the help of the given subcommand(s)
@@ -74,5 +75,6 @@ fn a_person_is_told_what_to_type(rt: HostRuntime) -> Result<(), Fail> {
     assert_eq!(rt; said(&rt, &["load", "1"])?.as_str(), NO_COUNT);
     assert_eq!(rt; said(&rt, &["load", "1", "1000001"])?.as_str(), LARGE);
     assert_eq!(rt; said(&rt, &["replay"])?.as_str(), "");
+    assert_eq!(rt; said(&rt, &["audit"])?.as_str(), "");
     Ok(())
 }

@@ -13,7 +13,7 @@ use Rattle.schedule_replay.proofs.WholeLaws.{not-begun}
 use Rattle.load_schedule.specs.Loads.{PutsFiveLines}
 use Rattle.load_schedule.proofs.LoadLaws.{load-front}
 use Rattle.command_words.specs.CommandLine.{Asked}
-use Rattle.command_words.specs.CommandLine.Asked.{Load, Replay, Serve}
+use Rattle.command_words.specs.CommandLine.Asked.{Audit, Load, Replay, Serve}
 use Rattle.host_app.specs.declared.status.Status.{Status}
 use Rattle.host_app.specs.declared.status.Status.TheVariants as statuses
 use Rattle.serving.specs.declared.stop.Stop.{Stop}
@@ -22,6 +22,7 @@ use Rattle.serving.specs.Stations.{Ends, ServesLines, StopsLines}
 use Rattle.serving.proofs.LinesLaws.{no_service}
 use Rattle.host_app.specs.Serves.{Serves}
 use Rattle.host_app.specs.Statuses.{status_of, status_of_load, status_of_service}
+use Rattle.host_app.specs.Audits.{WritesOrderlyFront}
 use Rattle.host_app.specs.Mains.{Loads, Says}
 
 -- without memory a replay has written a prefix
@@ -36,22 +37,26 @@ replay-front (Some bytes) read held now rans.ReadFault status e r m = let g : st
 replay-front (Some bytes) read held now (rans.BadSchedule line reason) status e r m = let g : statuses.BadSchedule line reason ≡ statuses.NoMemory = subst (λ (s : Status). s ≡ statuses.NoMemory) e m in cc
 replay-front (Some bytes) read held now rans.WriteFault status e r m = let g : statuses.WriteFault ≡ statuses.NoMemory = subst (λ (s : Status). s ≡ statuses.NoMemory) e m in cc
 
--- a replay is done or without memory, where no line is rejected and no fault was counted
-abbrev Completes : Option (List ℕ) → ℕ → ℕ → ℕ → ℕ → Type 0 → Type 0
-Completes left reads reads_now writes writes_now ended = IfSome left (λ bytes. judge bytes ≡ None → (Rose reads reads_now → ⊥) → (Rose writes writes_now → ⊥) → ended)
+-- what ends so where the bytes are of this kind and no fault was counted
+abbrev Completes : (List ℕ → Type 0) → Option (List ℕ) → ℕ → ℕ → ℕ → ℕ → Type 0 → Type 0
+Completes fit left reads reads_now writes writes_now ended = IfSome left (λ bytes. fit bytes → (Rose reads reads_now → ⊥) → (Rose writes writes_now → ⊥) → ended)
+
+-- a replay is done or without memory, where no line is rejected
+abbrev pub Accepted : List ℕ → Type 0
+Accepted bytes = judge bytes ≡ None
 
 pub replay-complete : (left : Option (List ℕ)) (reads reads_now writes writes_now : ℕ) (ran : Ran) (status : Status) → status ≡ status_of ran
-    → Completes left reads reads_now writes writes_now ((ran ≡ rans.Done) ⊎ (ran ≡ rans.Memory)) → Completes left reads reads_now writes writes_now ((status ≡ statuses.Done) ⊎ (status ≡ statuses.NoMemory))
+    → Completes Accepted left reads reads_now writes writes_now ((ran ≡ rans.Done) ⊎ (ran ≡ rans.Memory)) → Completes Accepted left reads reads_now writes writes_now ((status ≡ statuses.Done) ⊎ (status ≡ statuses.NoMemory))
 replay-complete None reads reads_now writes writes_now ran status e h = tt
 replay-complete (Some bytes) reads reads_now writes writes_now ran status e h = λ judged read wrote. elim (h judged read wrote) [
   | inl d ↦ inl (e ∙ ap status_of d)
   | inr m ↦ inr (e ∙ ap status_of m)
 ]
 
-pub memory-complete : (left : Option (List ℕ)) (reads reads_now writes writes_now : ℕ) (status : Status) → status ≡ statuses.NoMemory
-    → Completes left reads reads_now writes writes_now ((status ≡ statuses.Done) ⊎ (status ≡ statuses.NoMemory))
-memory-complete None reads reads_now writes writes_now status e = tt
-memory-complete (Some bytes) reads reads_now writes writes_now status e = λ judged read wrote. inr e
+pub memory-complete : (fit : List ℕ → Type 0) (left : Option (List ℕ)) (reads reads_now writes writes_now : ℕ) (status : Status) → status ≡ statuses.NoMemory
+    → Completes fit left reads reads_now writes writes_now ((status ≡ statuses.Done) ⊎ (status ≡ statuses.NoMemory))
+memory-complete fit None reads reads_now writes writes_now status e = tt
+memory-complete fit (Some bytes) reads reads_now writes writes_now status e = λ judged read wrote. inr e
 
 -- a text that was put was said, in whole or in part
 pub says-by : (held now : Option (List ℕ)) (room room_now : Option ℕ) (faults faults_now : ℕ) (r : Result (Unit {0}) PutError) (text : List ℕ) → PutsAll held now r text → Counts faults faults_now (r ≡ Err put_errors.Write)
@@ -79,16 +84,32 @@ loads-same m n k l held now status e h = let s = same-load m n k l e in subst (�
 pub not-load : (number count : ℕ) → Some Replay ≡ Some (Load number count) → ⊥
 not-load number count e = cc
 
+pub audit-not-load : (number count : ℕ) → Some Audit ≡ Some (Load number count) → ⊥
+audit-not-load number count e = cc
+
+pub not-audit : Some Replay ≡ Some Audit → ⊥
+not-audit e = cc
+
 pub not-named : (asked : Asked) (c : Option Asked) → c ≡ None → c ≡ Some asked → ⊥
 not-named asked c e f = let g : None ≡ Some asked = subst (λ (d : Option Asked). d ≡ Some asked) e f in cc
 
 pub load-none : (number count : ℕ) (held now : Option (List ℕ)) (status : Status) → now ≡ held → status ≡ statuses.NoMemory → Loads number count held now status
 load-none number count held now status e m = rw (m, e) (load-front number count held)
 
+-- ---- the audit
+
+-- of which nothing was written
+pub audit-none : (left held now : Option (List ℕ)) → now ≡ held → IfSome left (λ bytes. (now ≡ held) ⊎ WritesOrderlyFront bytes held now)
+audit-none None held now e = tt
+audit-none (Some bytes) held now e = inl e
+
 -- ---- the service of lines
 
 pub not-serve : (path : List ℕ) (answers : ℕ) → Some Replay ≡ Some (Serve path answers) → ⊥
 not-serve path answers e = cc
+
+pub audit-not-serve : (path : List ℕ) (answers : ℕ) → Some Audit ≡ Some (Serve path answers) → ⊥
+audit-not-serve path answers e = cc
 
 pub load-not-serve : (path : List ℕ) (answers number count : ℕ) → Some (Load number count) ≡ Some (Serve path answers) → ⊥
 load-not-serve path answers number count e = cc

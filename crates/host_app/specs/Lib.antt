@@ -1,3 +1,4 @@
 pub mod Statuses
+pub mod Audits
 pub mod Mains
 pub mod Serves

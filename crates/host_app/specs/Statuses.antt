@@ -1,5 +1,5 @@
 -- The statuses and what is said of them.
-use Rattle.std.specs.Prelude.{ℕ, List, [], ◌++◌, Result, Ok, Err, codes}
+use Rattle.std.specs.Prelude.{ℕ, zero, suc, List, [], ◌++◌, Result, Ok, Err, codes}
 use Rattle.std.specs.Fmt.{decimal}
 use Rattle.tree_specs.specs.declared.schedule.Reason.{Reason}
 use Rattle.tree_specs.specs.declared.schedule.Reason.TheVariants.{Limit, Form, NotAsked, Token}
@@ -41,6 +41,7 @@ status_number (statuses.BadSchedule line reason) = 3
 status_number statuses.WriteFault = 4
 status_number statuses.LinkFault = 5
 status_number statuses.NoMemory = 6
+status_number (statuses.Broken line rule) = 7
 
 -- what follows the number of a refused line
 abbrev pub reason_text : Reason → List ℕ
@@ -49,8 +50,17 @@ reason_text Form = codes ": form\n"
 reason_text NotAsked = codes ": not asked\n"
 reason_text Token = codes ": token\n"
 
+-- a number in decimal between two texts
+abbrev pub numbered : List ℕ → ℕ → List ℕ → List ℕ
+numbered before number after = before ++ (decimal number ++ after)
+
 abbrev pub line_text : ℕ → Reason → List ℕ
-line_text line reason = codes "line " ++ decimal line ++ reason_text reason
+line_text line reason = numbered (codes "line ") line (reason_text reason)
+
+-- a line of no form is told as a schedule's is
+abbrev pub flaw_text : ℕ → ℕ → List ℕ
+flaw_text line zero = line_text line Form
+flaw_text line (suc rule) = numbered (codes "line ") line (codes ": rule ") ++ numbered [] (suc rule) (codes "\n")
 
 -- what is said of a status; where words aren't taken `clap` has said what to type
 abbrev pub status_text : Status → List ℕ
@@ -61,3 +71,4 @@ status_text (statuses.BadSchedule line reason) = line_text line reason
 status_text statuses.WriteFault = codes "write fault\n"
 status_text statuses.LinkFault = codes "link fault\n"
 status_text statuses.NoMemory = codes "no memory\n"
+status_text (statuses.Broken line rule) = flaw_text line rule

@@ -1,7 +1,9 @@
 //! The top call: what the program does for its words, over any source and any sinks.
 #![tactic(auto)]
 
+mod auditing;
 mod main_call;
+mod numbered;
 mod saying;
 mod status;
 

@@ -2,15 +2,19 @@
 ghost use Rattle.std.specs.Prelude.{◌≡◌, ◌≢◌, ◌≤◌, ◌⊎◌, ℕ, List, None, Some, IfSome};
 ghost use Rattle.tree_specs.specs.declared.schedule.Reason.{Reason};
 ghost use Rattle.service_rules.specs.Schedules.{judge};
+ghost use Rattle.audit_rules.specs.Flaws.{flaw};
 ghost use Rattle.outside.specs.Causes.{Rose};
 ghost use Rattle.schedule_replay.specs.Runs.{IsDone, IsBad, IsCutShort, IsFrontOf};
 ghost use Rattle.schedule_replay.specs.Stories.{WritesStory};
 ghost use Rattle.host_app.specs.Statuses.{status_text};
 ghost use Rattle.serving.specs.Stations.{ends};
-ghost use Rattle.command_words.specs.CommandLine.Asked.{Replay, Serve, Load};
+ghost use Rattle.command_words.specs.CommandLine.Asked.{Replay, Audit, Serve, Load};
+ghost use Rattle.transcript_audit.specs.Outcomes.{HasFlaw};
+ghost use Rattle.host_app.specs.Audits.{WritesOrderly, WritesOrderlyFront};
 ghost use Rattle.host_app.specs.Mains.{names, Loads, Says};
 ghost use Rattle.host_app.specs.Serves.{Serves};
 
+use crate::auditing::audit_transcript;
 use crate::saying::say;
 use crate::status::Status;
 use command_words::{Command, WordsError, read_words};
@@ -22,8 +26,9 @@ use std::alloc::Global;
 
 /// Does what the words say, and says on `err` what the status means.
 ///
-/// The word `replay` replays the schedule that `input` gives into its transcript, which goes to `out`. The words
-/// `serve PATH ANSWERS` serve lines at a Unix socket until ANSWERS answers of the link, the clock and the routines were
+/// The word `replay` replays the schedule that `input` gives into its transcript, which goes to `out`. The word `audit`
+/// says of the transcript that `input` gives whether its story is orderly: on `out`, with the number of its lines, or on
+/// `err`, with the first line that has a flaw. The words `serve PATH ANSWERS` serve lines at a Unix socket until ANSWERS answers of the link, the clock and the routines were
 /// given, and put the schedule of these answers to `out`. The words `load NUMBER COUNT` make a schedule of COUNT calls
 /// from a number and put five lines on its transcript to `out`. Where words aren't taken the status is 2, and a person
 /// is told what to type. A fault of `err`, or running out of memory there, changes no status.
@@ -60,7 +65,7 @@ pub fn host_main<S: Source, K: Sink, E: Sink, L: Link, C: Clock, R: Routines>(
     // After a fault, and when memory runs out, a prefix of the transcript has been written. A service that would give
     // more answers than it may is without memory, and its schedule has no transcript.
     ensures read_fault { result ≡ Status.ReadFault → Rose (S.faults input.old) (S.faults input.new) }
-    ensures read_cut { result ≡ Status.ReadFault → IfSome (S.left input.old) (λ bytes. IsCutShort bytes (S.left input.new) (K.held out.old) (K.held out.new)) }
+    ensures read_cut { names words.now ≡ Some Replay → result ≡ Status.ReadFault → IfSome (S.left input.old) (λ bytes. IsCutShort bytes (S.left input.new) (K.held out.old) (K.held out.new)) }
     ensures write_fault { result ≡ Status.WriteFault → Rose (K.faults out.old) (K.faults out.new) }
     ensures write_front { names words.now ≡ Some Replay → result ≡ Status.WriteFault → IfSome (S.left input.old) (λ bytes. IsFrontOf bytes (K.held out.old) (K.held out.new)) }
     ensures memory_front { names words.now ≡ Some Replay → result ≡ Status.NoMemory → IfSome (S.left input.old) (λ bytes. IsFrontOf bytes (K.held out.old) (K.held out.new)) }
@@ -69,10 +74,31 @@ pub fn host_main<S: Source, K: Sink, E: Sink, L: Link, C: Clock, R: Routines>(
     ensures complete { names words.now ≡ Some Replay → IfSome (S.left input.old) (λ bytes. judge bytes ≡ None →
         (Rose (S.faults input.old) (S.faults input.new) → ⊥) → (Rose (K.faults out.old) (K.faults out.new) → ⊥) → (result ≡ Status.Done) ⊎ (result ≡ Status.NoMemory)) }
 
+    // Of the word `audit`: the bytes are the transcript of an orderly story, and the line with the number of their lines
+    // has been written.
+    ensures orderly { names words.now ≡ Some Audit → result ≡ Status.Done → IfSome (S.left input.old) (λ bytes. WritesOrderly bytes (K.held out.old) (K.held out.new)) }
+
+    // The first line that has a flaw, and which: the lines before it begin the transcript of an orderly story. Nothing is
+    // written, and it comes of no other words.
+    ensures broken { (line rule : ℕ) → result ≡ Status.Broken line rule → IfSome (S.left input.old) (λ bytes. HasFlaw bytes line rule) }
+    ensures broken_out { (line rule : ℕ) → result ≡ Status.Broken line rule → out.new ≡ out.old }
+    ensures broken_words { (line rule : ℕ) → result ≡ Status.Broken line rule → names words.now ≡ Some Audit }
+
+    // After a failed read nothing is written, after a fault of `out` a prefix of the line, and one of both where memory
+    // runs out. Where no line has a flaw and no fault was counted, all is done, or memory ran out.
+    ensures audit_read { names words.now ≡ Some Audit → result ≡ Status.ReadFault → out.new ≡ out.old }
+    ensures audit_front { names words.now ≡ Some Audit → result ≡ Status.WriteFault → IfSome (S.left input.old) (λ bytes. WritesOrderlyFront bytes (K.held out.old) (K.held out.new)) }
+    ensures audit_memory { names words.now ≡ Some Audit → result ≡ Status.NoMemory → IfSome (S.left input.old) (λ bytes.
+        (K.held out.new ≡ K.held out.old) ⊎ WritesOrderlyFront bytes (K.held out.old) (K.held out.new)) }
+    ensures audit_complete { names words.now ≡ Some Audit → IfSome (S.left input.old) (λ bytes. flaw bytes ≡ None →
+        (Rose (S.faults input.old) (S.faults input.new) → ⊥) → (Rose (K.faults out.old) (K.faults out.new) → ⊥) → (result ≡ Status.Done) ⊎ (result ≡ Status.NoMemory)) }
+
     // Of the words `serve PATH ANSWERS`: so many answers were given to the service, over this path, and are on record. The
-    // link, the clock and the routines were asked what its story over them prescribes, and the record is a schedule of
-    // which no line is refused and that has these inputs, so its replay writes the transcript of this very run. After a
-    // fault, and when memory runs out, it is so as far as it came. Nothing is read.
+    // link, the clock and the routines were asked what its story over them prescribes. Where no answer names more than
+    // 20,164 ready descriptors, the record is a schedule of which no line is refused and that has these inputs, so its
+    // replay writes the transcript of this very run. After a fault, and when memory runs out, so many answers at most
+    // were given and are on record, with a part of one more line at most, and a question that was put after them is the
+    // one with which the story over them ends. Nothing is read.
     ensures serves { (path : List ℕ) (answers : ℕ) → names words.now ≡ Some (Serve path answers) → Serves path answers result
         (ends (L.told link.old) (C.told clock.old) (R.told routines.old) (K.held out.old))
         (ends (L.told link.new) (C.told clock.new) (R.told routines.new) (K.held out.new)) }
@@ -96,6 +122,7 @@ pub fn host_main<S: Source, K: Sink, E: Sink, L: Link, C: Clock, R: Routines>(
 {
     let status = match read_words(alloc, words) {
         Ok(Command::Replay) => Status::from(replay(alloc, input, out)),
+        Ok(Command::Audit) => audit_transcript(alloc, input, out),
         Ok(Command::Serve { path, answers }) => Status::from(serve_lines(
             alloc,
             path,

@@ -24,6 +24,9 @@ pub enum Status {
     LinkFault,
     /// Memory ran out. Status 6.
     NoMemory,
+    /// The line of a transcript with this number, from 1, is the first with a flaw. `rule` is the least rule of orderly
+    /// stories that it breaks, from 1 to 5, or 0 where no transcript has these first lines. Status 7.
+    Broken { line: u64, rule: u32 },
 }
 
 impl Status {
@@ -39,6 +42,7 @@ impl Status {
             Status::WriteFault => 4,
             Status::LinkFault => 5,
             Status::NoMemory => 6,
+            Status::Broken { .. } => 7,
         }
     }
 }

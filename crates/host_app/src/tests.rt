@@ -29,7 +29,7 @@ pub(crate) const CLIENTS: &[u8] =
 const CLIENTS_SERVED: &[u8] =
     b"tv transcript 1\nask wait 30000000\nfired fd 2 1\nask accept 0\nask wait 30000000\nfired fd 2 1\nask accept 0\nask wait 30000000\nfired fd 4 2\nask read 1 4096\nask write 1 3120390a\nend wait 30000000\n";
 
-/// A run of the word `replay`: what it answered, wrote and said.
+/// A run: what it answered, wrote and said.
 #[derive(Drop)]
 struct Answer {
     status: Status,
@@ -76,9 +76,10 @@ fn word(rt: &HostRuntime, text: &str) -> Result<Vec<String>, Fail> {
     Ok(words)
 }
 
-// Bytes that come a few at a time, from a source and to a sink that fail at these calls.
+// What this command does with bytes that come a few at a time, from a source and to a sink that fail at these calls.
 fn run_with(
     rt: &HostRuntime,
+    command: &str,
     bytes: &[u8],
     most: u32,
     reads_fail: &[u64],
@@ -86,7 +87,7 @@ fn run_with(
 ) -> Result<Answer, Fail>
     requires { 1 ≤ most }
 {
-    let words = word(rt, "replay")?;
+    let words = word(rt, command)?;
     let mut input = MemSource::new(
         bytes.to_vec(rt.alloc())?,
         most,
@@ -153,7 +154,7 @@ fn each_schedule_has_its_transcript_or_its_first_refused_line(rt: HostRuntime) -
         ),
     ];
     for (bytes, status, out, err) in cases {
-        let told = run_with(&rt, bytes, 4096, &[], &[])?;
+        let told = run_with(&rt, "replay", bytes, 4096, &[], &[])?;
         ends(&rt, &told, status, out, err);
     }
     Ok(())
@@ -161,7 +162,7 @@ fn each_schedule_has_its_transcript_or_its_first_refused_line(rt: HostRuntime) -
 
 #[test]
 fn takes_bytes_one_by_one(rt: HostRuntime) -> Result<(), Fail> {
-    let told = run_with(&rt, CHILDREN, 1, &[], &[])?;
+    let told = run_with(&rt, "replay", CHILDREN, 1, &[], &[])?;
     ends(&rt, &told, Status::Done, CHILDREN_FREED, b"");
     Ok(())
 }
@@ -170,7 +171,7 @@ fn takes_bytes_one_by_one(rt: HostRuntime) -> Result<(), Fail> {
 fn refuses_a_line_past_the_limit(rt: HostRuntime) -> Result<(), Fail> {
     let mut bytes = b"tv schedule 1 pool\n".as_slice().to_vec(rt.alloc())?;
     bytes.resize(19 + 262_145, b'x')?;
-    let told = run_with(&rt, &bytes, 4096, &[], &[])?;
+    let told = run_with(&rt, "replay", &bytes, 4096, &[], &[])?;
     ends(
         &rt,
         &told,
@@ -183,13 +184,65 @@ fn refuses_a_line_past_the_limit(rt: HostRuntime) -> Result<(), Fail> {
 
 #[test]
 fn a_fault_leaves_what_whole_lines_tell(rt: HostRuntime) -> Result<(), Fail> {
-    let at_once = run_with(&rt, CHILDREN, 4096, &[1], &[])?;
+    let at_once = run_with(&rt, "replay", CHILDREN, 4096, &[1], &[])?;
     ends(&rt, &at_once, Status::ReadFault, b"", b"read fault\n");
-    let later = run_with(&rt, CHILDREN, 20, &[3], &[])?;
+    let later = run_with(&rt, "replay", CHILDREN, 20, &[3], &[])?;
     let whole = b"tv transcript 1\nreply 1\n";
     ends(&rt, &later, Status::ReadFault, whole, b"read fault\n");
-    let unwritten = run_with(&rt, CHILDREN, 4096, &[], &[1])?;
+    let unwritten = run_with(&rt, "replay", CHILDREN, 4096, &[], &[1])?;
     ends(&rt, &unwritten, Status::WriteFault, b"", b"write fault\n");
+    Ok(())
+}
+
+fn broken(line: u64, rule: u32) -> Status {
+    Status::Broken { line, rule }
+}
+
+#[test]
+fn each_transcript_is_orderly_or_has_its_first_flaw(rt: HostRuntime) -> Result<(), Fail> {
+    let cases = [
+        (
+            NOTHING,
+            Status::Done,
+            b"orderly 2\n".as_slice(),
+            b"".as_slice(),
+        ),
+        (CHILDREN_FREED, Status::Done, b"orderly 12\n", b""),
+        (REPORTED, Status::Done, b"orderly 14\n", b""),
+        (b"", broken(1, 0), b"", b"line 1: form\n"),
+        (CHILDREN, broken(1, 0), b"", b"line 1: form\n"),
+        (
+            b"tv transcript 1\nend qui",
+            broken(2, 0),
+            b"",
+            b"line 2: form\n",
+        ),
+        (
+            b"tv transcript 1\naccepted 4\nfreed 4 16\nfired timer 4 16\nend quiet\n",
+            broken(4, 3),
+            b"",
+            b"line 4: rule 3\n",
+        ),
+    ];
+    for (bytes, status, out, err) in cases {
+        let told = run_with(&rt, "audit", bytes, 4096, &[], &[])?;
+        ends(&rt, &told, status, out, err);
+    }
+    Ok(())
+}
+
+#[test]
+fn a_fault_leaves_a_front_of_what_an_audit_writes(rt: HostRuntime) -> Result<(), Fail> {
+    let unread = run_with(&rt, "audit", NOTHING, 16, &[2], &[])?;
+    ends(&rt, &unread, Status::ReadFault, b"", b"read fault\n");
+    let unwritten = run_with(&rt, "audit", NOTHING, 8, &[], &[2])?;
+    ends(
+        &rt,
+        &unwritten,
+        Status::WriteFault,
+        b"orderly ",
+        b"write fault\n",
+    );
     Ok(())
 }
 

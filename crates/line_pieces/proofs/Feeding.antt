@@ -1,11 +1,11 @@
 -- Reading piece by piece.
-use Rattle.std.proofs.Common.{◌≡◌, ℕ, suc, ◌+◌, ◌<◌, ◌≤◌, Bool, true, false, not, eqb, ltb, ◌||◌, List, [], ◌∷◌, ◌++◌, length, Result, Ok, Err, refl, sym, ap, subst, ◌∙◌, append_assoc, arith, length-append}
+use Rattle.std.proofs.Common.{◌≡◌, ℕ, suc, ◌+◌, ◌<◌, ◌≤◌, Bool, true, false, not, eqb, ltb, ◌||◌, List, [], ◌∷◌, ◌++◌, length, take, drop, Result, Ok, Err, refl, sym, ap, subst, ◌∙◌, append_assoc, arith, length-append}
 use Rattle.std.proofs.lemmas.List.{append-nil}
 use Rattle.std.proofs.lemmas.Bool.Decides.{nat_tests}
 use Rattle.tree_specs.specs.Texts.Lines.{Line, lines, lines_of_parts, is_over_limit, line_limit, lines_limit}
 use Rattle.line_pieces.specs.Cuts.{has_no_lf, ended_line}
 use Rattle.line_pieces.specs.Takings.{TakesLine, RefusesLimit, EndsWith, TakesEnd}
-use Rattle.line_pieces.specs.Readings.{Reading, from_line, found_now, Advances, Takes, IsBetweenBytes}
+use Rattle.line_pieces.specs.Readings.{Reading, from_line, found_now, Advances, Leaves, Takes, IsBetweenBytes}
 use Rattle.line_pieces.proofs.LineLaws.{lines_ended, lines_from, lines_last, lines_some, plain_append}
 
 -- where these bytes are what has come of the line
@@ -133,30 +133,49 @@ module _ {T E F : Type 0} (comes : T → ℕ → List Line → F) (stops : E →
   err-more : (s : Reading T) (p q : List ℕ) (u : Reading T) (e : E) → Takes comes stops s p u (Err e) → Takes comes stops s (p ++ q) u (Err e)
   err-more s p q u e h bytes = subst (stops e u.taker) (sym (ap (λ (l : List ℕ). from_line comes s (s.line ++ l)) (append_assoc p q bytes))) (h (q ++ bytes))
 
-  -- what was taken of a piece, where this still comes
-  pub record Fed (s : Reading T) (piece : List ℕ) (t : Reading T) (rest : List ℕ) : Type 0 where
-    pub taken : List ℕ
-    pub whole : piece ≡ taken ++ rest
-    pub advances : Advances comes s taken t
+  -- ---- what was taken of a piece, where this is left
 
-  pub fed-none : (s : Reading T) (piece : List ℕ) → Fed s piece s piece
+  pub fed-none : (s : Reading T) (piece : List ℕ) → Leaves comes s piece s piece
   fed-none s piece = record { taken = []; whole = refl; advances = advances-none s }
 
-  pub fed-last : (s : Reading T) (piece : List ℕ) (t : Reading T) (rest : List ℕ) (u : Reading T) (r : Result (Unit {0}) E) → Fed s piece t rest → Takes comes stops t rest u r → Takes comes stops s piece u r
+  pub fed-last : (s : Reading T) (piece : List ℕ) (t : Reading T) (rest : List ℕ) (u : Reading T) (r : Result (Unit {0}) E) → Leaves comes s piece t rest → Takes comes stops t rest u r → Takes comes stops s piece u r
   fed-last s piece t rest u r f h = subst (λ (p : List ℕ). Takes comes stops s p u r) (sym f.whole) (advances-then s f.taken t rest u r f.advances h)
+
+  -- more of it
+  pub fed-more : (s : Reading T) (piece : List ℕ) (t : Reading T) (rest : List ℕ) (u : Reading T) (left : List ℕ) → Leaves comes s piece t rest → Leaves comes t rest u left → Leaves comes s piece u left
+  fed-more s piece t rest u left f h = record {
+    taken = f.taken ++ h.taken;
+    whole = f.whole ∙ ap (λ (l : List ℕ). f.taken ++ l) h.whole ∙ sym (append_assoc f.taken h.taken left);
+    advances = advances-then s f.taken t h.taken u (Ok tt) f.advances h.advances;
+  }
+
+  -- nothing is left of it
+  pub fed-all : (s : Reading T) (piece : List ℕ) (t : Reading T) (rest : List ℕ) (u : Reading T) → Leaves comes s piece t rest → Takes comes stops t rest u (Ok tt) → Leaves comes s piece u []
+  fed-all s piece t rest u f h = record {
+    taken = f.taken ++ rest;
+    whole = f.whole ∙ sym (append-nil (f.taken ++ rest));
+    advances = advances-then s f.taken t rest u (Ok tt) f.advances h;
+  }
+
+  pub fed-whole : (s : Reading T) (piece : List ℕ) (t : Reading T) (rest : List ℕ) → Leaves comes s piece t rest → rest ≡ [] → Advances comes s piece t
+  fed-whole s piece t rest f none = subst (λ (p : List ℕ). Advances comes s p t) (sym (f.whole ∙ ap (λ (l : List ℕ). f.taken ++ l) none ∙ append-nil f.taken)) f.advances
 
   line-cut : (line after : List ℕ) → line ++ 10 ∷ after ≡ (line ++ 10 ∷ []) ++ after
   line-cut line after = sym (append_assoc line (10 ∷ []) after)
 
-  -- the next line of it
-  pub fed-line : (s : Reading T) (piece : List ℕ) (t : Reading T) (rest line after : List ℕ) (u : Reading T) → Fed s piece t rest → rest ≡ line ++ 10 ∷ after → Takes comes stops t (line ++ 10 ∷ []) u (Ok tt) → Fed s piece u after
-  fed-line s piece t rest line after u f cut h = record {
-    taken = f.taken ++ (line ++ 10 ∷ []);
-    whole = f.whole ∙ ap (λ (l : List ℕ). f.taken ++ l) (cut ∙ line-cut line after) ∙ sym (append_assoc f.taken (line ++ 10 ∷ []) after);
-    advances = advances-then s f.taken t (line ++ 10 ∷ []) u (Ok tt) f.advances h;
-  }
+  -- the next line of it, which ends with its byte n
+  pub fed-line : (s : Reading T) (piece : List ℕ) (t : Reading T) (rest : List ℕ) (n : ℕ) (after : List ℕ) (u : Reading T) → Leaves comes s piece t rest → rest ≡ take n rest ++ 10 ∷ drop (n + 1) rest
+      → Takes comes stops t (take n rest ++ 10 ∷ []) u (Ok tt) → after ≡ drop (n + 1) rest → Leaves comes s piece u after
+  fed-line s piece t rest n after u f cut h left =
+      let line = take n rest in
+      let here : rest ≡ line ++ 10 ∷ after = cut ∙ ap (λ (l : List ℕ). line ++ 10 ∷ l) (sym left) in
+      record {
+        taken = f.taken ++ (line ++ 10 ∷ []);
+        whole = f.whole ∙ ap (λ (l : List ℕ). f.taken ++ l) (here ∙ line-cut line after) ∙ sym (append_assoc f.taken (line ++ 10 ∷ []) after);
+        advances = advances-then s f.taken t (line ++ 10 ∷ []) u (Ok tt) f.advances h;
+      }
 
-  pub fed-error : (s : Reading T) (piece : List ℕ) (t : Reading T) (rest line after : List ℕ) (u : Reading T) (e : E) → Fed s piece t rest → rest ≡ line ++ 10 ∷ after → Takes comes stops t (line ++ 10 ∷ []) u (Err e) → Takes comes stops s piece u (Err e)
+  pub fed-error : (s : Reading T) (piece : List ℕ) (t : Reading T) (rest line after : List ℕ) (u : Reading T) (e : E) → Leaves comes s piece t rest → rest ≡ line ++ 10 ∷ after → Takes comes stops t (line ++ 10 ∷ []) u (Err e) → Takes comes stops s piece u (Err e)
   fed-error s piece t rest line after u e f cut h =
       fed-last s piece t rest u (Err e) f (subst (λ (p : List ℕ). Takes comes stops t p u (Err e)) (sym (cut ∙ line-cut line after)) (err-more t (line ++ 10 ∷ []) after u e h))
 

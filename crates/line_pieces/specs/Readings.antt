@@ -1,5 +1,6 @@
 -- A text that is read piece by piece, and what the next bytes do.
 use Rattle.std.specs.Prelude.{◌≡◌, ℕ, suc, ◌+◌, ◌-◌, ◌*◌, ◌<◌, ◌≤◌, true, List, [], ◌++◌, length, Result, Ok, Err}
+use Rattle.std.specs.Borrow.{Bor}
 use Rattle.tree_specs.specs.Texts.Lines.{Line, lines, line_limit, lines_limit}
 use Rattle.line_pieces.specs.Cuts.{has_no_lf}
 
@@ -35,6 +36,17 @@ pub record Advances {T F : Type 0} (comes : T → ℕ → List Line → F) (s : 
 abbrev pub Takes : {T E F : Type 0} → (T → ℕ → List Line → F) → (E → T → F → Type 0) → Reading T → List ℕ → Reading T → Result (Unit {0}) E → Type 0
 Takes comes stops s piece t (Ok done) = Advances comes s piece t
 Takes comes stops s piece t (Err e) = (bytes : List ℕ) → stops e t.taker (from_line comes s (s.line ++ (piece ++ bytes)))
+
+-- So much of the piece was taken, and this is left of it.
+pub record Leaves {T F : Type 0} (comes : T → ℕ → List Line → F) (s : Reading T) (piece : List ℕ) (t : Reading T) (rest : List ℕ) : Type 0 where
+  pub taken : List ℕ
+  pub whole : piece ≡ taken ++ rest
+  pub advances : Advances comes s taken t
+
+-- A part of the piece was taken, and the rest is given back, or what takes the lines stopped.
+abbrev pub Feeds : {T E F : Type 0} → (T → ℕ → List Line → F) → (E → T → F → Type 0) → Reading T → List ℕ → Reading T → Result (Bor (List ℕ)) E → Type 0
+Feeds comes stops s piece t (Ok rest) = Leaves comes s piece t rest.now
+Feeds comes stops s piece t (Err e) = (bytes : List ℕ) → stops e t.taker (from_line comes s (s.line ++ (piece ++ bytes)))
 
 -- what holds between two bytes
 pub record IsBetweenBytes {T : Type 0} (ready : T → ℕ → Type 0) (s : Reading T) : Type 0 where

@@ -1,8 +1,8 @@
 //! Reading a text, piece by piece.
-ghost use Rattle.std.specs.Prelude.{◌≡◌, ◌<◌, ◌≤◌, ◌+◌, [], ◌∷◌, ◌++◌, OnOk, IsTrue, ◌↔◌, length};
+ghost use Rattle.std.specs.Prelude.{◌≡◌, ◌<◌, ◌≤◌, ◌+◌, [], ◌∷◌, ◌++◌, IfOk, OnOk, IsTrue, ◌↔◌, length};
 ghost use Rattle.tree_specs.specs.Texts.Lines.{lines_limit};
 ghost use Rattle.line_pieces.specs.Cuts.{has_no_lf};
-ghost use Rattle.line_pieces.specs.Readings.{begun_by, found_now, IsBetweenBytes, room_left, Takes};
+ghost use Rattle.line_pieces.specs.Readings.{begun_by, Feeds, found_now, IsBetweenBytes, room_left, Takes};
 ghost use Rattle.line_pieces.specs.Takings.{EndsWith};
 
 use crate::cutting::line_end;
@@ -120,7 +120,28 @@ impl<T: TakesLines> LineReader<T> {
         self.end_line()
     }
 
-    /// Takes the next bytes.
+    /// Takes the next bytes, up to the end of the piece or of a line that makes the taker full. What is left of the piece
+    /// is to be given next.
+    pub fn feed_until_full<'a>(&mut self, piece: &'a [u8]) -> Result<&'a [u8], T::Stop>
+        requires { IsBetweenBytes T.ready (reading_of self.old) }
+        ensures taken { Feeds T.comes T.stops (reading_of self.old) piece.now (reading_of self.new) result }
+        ensures ready { OnOk result (IsBetweenBytes T.ready (reading_of self.new)) }
+        ensures progress { IfOk result (λ rest. room_left (reading_of self.new) + length piece.now ≤ room_left (reading_of self.old) + length rest.now) }
+        ensures shorter { IfOk result (λ rest. 0 < length piece.now → length rest.now < length piece.now) }
+    {
+        let mut rest = piece;
+        'lines: while let Some(end) = line_end(rest) {
+            self.take_rest(&rest[..end])?;
+            rest = &rest[end + 1..];
+            if self.taker.is_full() {
+                return Ok(rest);
+            }
+        }
+        self.lengthen(rest)?;
+        Ok(&[])
+    }
+
+    /// Takes the next bytes, all of them.
     pub fn feed(&mut self, piece: &[u8]) -> Result<(), T::Stop>
         requires { IsBetweenBytes T.ready (reading_of self.old) }
         ensures taken { Takes T.comes T.stops (reading_of self.old) piece.now (reading_of self.new) result }
@@ -128,11 +149,10 @@ impl<T: TakesLines> LineReader<T> {
         ensures progress { OnOk result (room_left (reading_of self.new) + length piece.now ≤ room_left (reading_of self.old)) }
     {
         let mut rest = piece;
-        'lines: while let Some(end) = line_end(rest) {
-            self.take_rest(&rest[..end])?;
-            rest = &rest[end + 1..];
+        'runs: while !rest.is_empty() {
+            rest = self.feed_until_full(rest)?;
         }
-        self.lengthen(rest)
+        Ok(())
     }
 
     /// Takes the end of the text.

@@ -36,6 +36,10 @@ pub trait TakesLines: Drop {
         ensures taken { TakesLine comes stops self.old number line.now self.new result }
         ensures ready { OnOk result (ready self.new (number + 1)) };
 
+    /// Whether it wants to be looked at before it takes more lines, as what it keeps of them has become large. Nothing is
+    /// found otherwise by it.
+    fn is_full(&self) -> bool;
+
     /// The line with this number is over a limit: it is too long, or there are too many lines.
     fn refuse_limit(&mut self, number: u64) -> Self::Stop
         requires { ready self.old number }

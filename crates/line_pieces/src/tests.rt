@@ -12,10 +12,11 @@ enum Cause {
     Memory,
 }
 
-/// Lines, each with a bar behind it.
+/// Lines, each with a bar behind it. Of so many bytes it is full.
 #[derive(Drop)]
 struct Joined {
     text: Vec<u8>,
+    most: usize,
 }
 
 impl TakesLines for Joined {
@@ -38,6 +39,10 @@ impl TakesLines for Joined {
         Ok(())
     }
 
+    fn is_full(&self) -> bool {
+        self.text.len() >= self.most
+    }
+
     fn refuse_limit(&mut self, number: u64) -> Cause {
         Cause::Limit(number)
     }
@@ -54,6 +59,7 @@ impl TakesLines for Joined {
 fn read_both(alloc: Global, first: &[u8], second: &[u8]) -> Result<Vec<u8>, Cause> {
     let taker = Joined {
         text: Vec::new(alloc),
+        most: 100,
     };
     let mut reader = LineReader::new(alloc, taker);
     reader.feed(first)?;
@@ -70,6 +76,19 @@ fn pieces_are_cut_into_lines(rt: HostRuntime) -> Result<(), Fail> {
         read_both(rt.alloc(), b"a\n", b"b\nc").err(),
         Some(Cause::Cut(3))
     );
+    Ok(())
+}
+
+#[test]
+fn what_is_left_of_a_piece_comes_back_where_the_taker_is_full(rt: HostRuntime) -> Result<(), Fail> {
+    let taker = Joined {
+        text: Vec::new(rt.alloc()),
+        most: 3,
+    };
+    let mut reader = LineReader::new(rt.alloc(), taker);
+    let rest = reader.feed_until_full(b"a\nb\nc\nd").ok();
+    assert_eq!(rt; rest, Some(b"c\nd".as_slice()));
+    assert_eq!(rt; reader.taker.text.as_slice(), b"a|b|".as_slice());
     Ok(())
 }
 

@@ -33,7 +33,7 @@ fn tally(alloc: Global, number: u32, count: u32) -> Option<Tally>
 /// calls were drawn, how many were refused, how many objects were freed, how many references were dropped, and how many
 /// objects are left.
 ///
-/// The memory that it takes is that of the rows that exist, of a line, and of what 4,096 bytes of the schedule tell.
+/// The memory that it takes is that of the rows that exist, of a line, and of what `replay` has still to write.
 ///
 /// # Errors
 ///

@@ -1,6 +1,7 @@
 -- Replaying what a source gives, piece by piece.
 use Rattle.std.proofs.Common.{◌≡◌, ◌≤◌, ℕ, false, List, [], ◌∷◌, ◌++◌, take, Option, Some, None, Result, Ok, Err, refl, sym, ap, subst, ◌∙◌, append_assoc, arith}
 use Rattle.std.specs.Prelude.{IfSome}
+use Rattle.std.specs.Borrow.{Bor}
 use Rattle.std.specs.Io.KnownBytes.{Appends, Consumes, IsAtEnd, Keeps}
 use Rattle.std.proofs.KnownBytes.{Consumes-nil, Appends-nil, Appends-trans, Consumes-trans, Consumes-kept}
 use Rattle.std.proofs.lemmas.List.{append-nil}
@@ -15,7 +16,7 @@ use Rattle.outside.specs.declared.output.PutError.{PutError}
 use Rattle.outside.specs.declared.output.PutError.TheVariants as put_errors
 use Rattle.outside.specs.Causes.{Counts}
 use Rattle.outside.specs.Outputs.{PutsFront}
-use Rattle.line_pieces.specs.Readings.{Reading, from_line, found_now, Advances, Takes, IsBetweenBytes}
+use Rattle.line_pieces.specs.Readings.{Reading, from_line, found_now, Feeds, Leaves, IsBetweenBytes}
 use Rattle.line_pieces.specs.Takings.{EndsWith}
 use Rattle.line_pieces.proofs.Feeding.{after-piece, no-bytes}
 use Rattle.schedule_replay.specs.declared.stage.Stage.{Stage}
@@ -24,7 +25,7 @@ use Rattle.schedule_replay.specs.declared.stop.Stop.{Stop}
 use Rattle.schedule_replay.specs.declared.stop.Stop.TheVariants as errors
 use Rattle.schedule_replay.specs.Hosts.{host_standing}
 use Rattle.schedule_replay.specs.Stations.{station_standing}
-use Rattle.schedule_replay.specs.Passes.{stop_of_put, StopsPut, IsFresh, PassesPiece, TakesEnd, PassesEnd}
+use Rattle.schedule_replay.specs.Passes.{stop_of_put, StopsPut, IsFresh, Passed, PassesPiece, PassesSome, TakesEnd, PassesEnd}
 use Rattle.schedule_replay.specs.Replays.{Replayed, behind, with_front, replayed_lines, BeginsText, StopsWith}
 use Rattle.schedule_replay.specs.Runs.{Replays, ran_of, IsCutShort, IsCutTranscript}
 use Rattle.schedule_replay.specs.Stages.{IsAtHeader, replayed_all, comes, text_in, ready, stops, ends, IsEmptied}
@@ -51,11 +52,13 @@ stop-front (errors.Refused line reason) n text found h = rw h (begins_less n tex
 stop-front errors.Memory n text found h = begins_less n text found.text h
 stop-front _ n text found h = absurd h
 
-piece-front : (s : Reading Stage) (piece : List ℕ) (u : Reading Stage) (n : ℕ) (r : Result (Unit {0}) Stop) → Takes comes stops s piece u r → (bytes : List ℕ) → BeginsText (take n (text_in u.taker)) (from_line comes s (s.line ++ (piece ++ bytes))).text
-piece-front s piece u n (Ok done) a bytes =
+piece-front : (s : Reading Stage) (piece : List ℕ) (u : Reading Stage) (n : ℕ) (r : Result (Bor (List ℕ)) Stop) → Feeds comes stops s piece u r → (bytes : List ℕ) → BeginsText (take n (text_in u.taker)) (from_line comes s (s.line ++ (piece ++ bytes))).text
+piece-front s piece u n (Ok rest) a bytes =
     let x = text_in u.taker in
-    let f = text-front u.taker u.number (lines (u.line ++ bytes)) in
-    rw (after-piece comes stops s piece u a bytes, f.1) (begins_less n x (behind x f.0) (begins_it x f.0))
+    let left = rest.now ++ bytes in
+    let f = text-front u.taker u.number (lines (u.line ++ left)) in
+    let all : piece ++ bytes ≡ a.taken ++ left = ap (λ (l : List ℕ). l ++ bytes) a.whole ∙ append_assoc a.taken rest.now bytes in
+    rw (all, after-piece comes stops s a.taken u a.advances left, f.1) (begins_less n x (behind x f.0) (begins_it x f.0))
 piece-front s piece u n (Err e) a bytes = stop-front e n (text_in u.taker) (from_line comes s (s.line ++ (piece ++ bytes))) (a bytes)
 
 put-stops : (e : Stop) (text : List ℕ) (found : Replayed) → StopsWith e text found → StopsPut e text found
@@ -68,40 +71,109 @@ put-begins : (e : PutError) (text : List ℕ) (found : Replayed) → BeginsText 
 put-begins put_errors.Write text found h = h
 put-begins put_errors.Memory text found h = h
 
-abbrev FailsBy : Stop → Stop → Type 0
-FailsBy e f = (let r : Result (Unit {0}) Stop = Err e in r ≡ Err f)
+abbrev FailsBy : Type 0 → Stop → Stop → Type 0
+FailsBy A e f = (let r : Result A Stop = Err e in r ≡ Err f)
 
 -- no line makes a put fail
-pub no-put : (e : Stop) (text : List ℕ) (found : Replayed) (before now : ℕ) → StopsWith e text found → before ≤ now → Counts before now (FailsBy e errors.Write)
+pub no-put : {A : Type 0} (e : Stop) (text : List ℕ) (found : Replayed) (before now : ℕ) → StopsWith e text found → before ≤ now → Counts before now (FailsBy A e errors.Write)
 no-put errors.Write text found before now h le = absurd h
 no-put errors.Read text found before now h le = absurd h
 no-put (errors.Refused line reason) text found before now h le = record { later = le; counted = λ e. absurd cc }
 no-put errors.Memory text found before now h le = record { later = le; counted = λ e. absurd cc }
 
 -- nor a read, and no put does
-pub no-read : (e : Stop) (text : List ℕ) (found : Replayed) (before now : ℕ) → StopsPut e text found → before ≤ now → Counts before now (FailsBy e errors.Read)
+pub no-read : (e : Stop) (text : List ℕ) (found : Replayed) (before now : ℕ) → StopsPut e text found → before ≤ now → Counts before now (FailsBy (Unit {0}) e errors.Read)
 no-read errors.Read text found before now h le = absurd h
 no-read errors.Write text found before now h le = record { later = le; counted = λ e. absurd cc }
 no-read (errors.Refused line reason) text found before now h le = record { later = le; counted = λ e. absurd cc }
 no-read errors.Memory text found before now h le = record { later = le; counted = λ e. absurd cc }
 
 -- the answer to a piece
-pub passes-put : (s u : Reading Stage) (w : Stage) (piece : List ℕ) (held now : Option (List ℕ)) → Appends held now (text_in u.taker) → IsEmptied u.taker w → Advances comes s piece u → PassesPiece s piece (staged u w) held now (Ok tt)
-passes-put s u w piece held now put emptied a = record {
-  written = text_in u.taker;
-  put = put;
-  taken = record { whole = a.whole; cut = a.cut; goes_on = λ bytes. a.goes_on bytes ∙ emptied.goes_on u.number (lines bytes); begun = a.begun };
-}
+pub passes-put : (s u : Reading Stage) (w : Stage) (piece rest : List ℕ) (held now : Option (List ℕ)) → Appends held now (text_in u.taker) → IsEmptied u.taker w → Leaves comes s piece u rest → PassesSome s piece (staged u w) held now rest
+passes-put s u w piece rest held now put emptied f =
+    let a = f.advances in
+    record {
+      taken = f.taken;
+      whole = f.whole;
+      passed = record {
+        written = text_in u.taker;
+        put = put;
+        taken = record { whole = a.whole; cut = a.cut; goes_on = λ bytes. a.goes_on bytes ∙ emptied.goes_on u.number (lines bytes); begun = a.begun };
+      };
+    }
 
-pub passes-error : (s u t : Reading Stage) (piece : List ℕ) (held now : Option (List ℕ)) (e : Stop) → Appends held now (text_in u.taker) → Takes comes stops s piece u (Err e) → PassesPiece s piece t held now (Err e)
+pub passes-error : (s u t : Reading Stage) (piece : List ℕ) (held now : Option (List ℕ)) (e : Stop) → Appends held now (text_in u.taker) → Feeds comes stops s piece u (Err e) → PassesPiece s piece t held now (Err e)
 passes-error s u t piece held now e put a = record { written = text_in u.taker; put = put; taken = λ bytes. put-stops e (text_in u.taker) (from_line comes s (s.line ++ (piece ++ bytes))) (a bytes) }
 
-pub passes-cut : (s u t : Reading Stage) (piece : List ℕ) (held now : Option (List ℕ)) (r : Result (Unit {0}) Stop) (e : PutError) → PutsFront held now (text_in u.taker) → Takes comes stops s piece u r → PassesPiece s piece t held now (Err (stop_of_put e))
+pub passes-cut : (s u t : Reading Stage) (piece : List ℕ) (held now : Option (List ℕ)) (r : Result (Bor (List ℕ)) Stop) (e : PutError) → PutsFront held now (text_in u.taker) → Feeds comes stops s piece u r → PassesPiece s piece t held now (Err (stop_of_put e))
 passes-cut s u t piece held now r e put a = record {
   written = take put.0 (text_in u.taker);
   put = put.1;
   taken = λ bytes. put-begins e (take put.0 (text_in u.taker)) (from_line comes s (s.line ++ (piece ++ bytes))) (piece-front s piece u put.0 r a bytes);
 }
+
+-- ---- one piece after another
+
+-- a text in front of what was written
+stops-behind : (e : Stop) (x text : List ℕ) (found : Replayed) → StopsPut e text found → StopsPut e (x ++ text) (with_front x found)
+stops-behind errors.Write x text found h = begins_behind x text found.text h
+stops-behind (errors.Refused line reason) x text found h = ap (with_front x) h
+stops-behind errors.Memory x text found h = begins_behind x text found.text h
+stops-behind errors.Read x text found h = h
+
+-- what is found after a piece
+passed-found : (s t : Reading Stage) (piece written bytes : List ℕ) → Passed s piece t written → from_line comes s (s.line ++ (piece ++ bytes)) ≡ with_front written (from_line comes t (t.line ++ bytes))
+passed-found s t piece written bytes a =
+    ap (from_line comes s) (sym (append_assoc s.line piece bytes) ∙ ap (λ (l : List ℕ). l ++ bytes) a.cut ∙ append_assoc a.whole t.line bytes) ∙ a.goes_on (t.line ++ bytes)
+
+passes-then : (s t u : Reading Stage) (p q : List ℕ) (h0 h1 h2 : Option (List ℕ)) (r : Result (Unit {0}) Stop) → PassesPiece s p t h0 h1 (Ok tt) → PassesPiece t q u h1 h2 r → PassesPiece s (p ++ q) u h0 h2 r
+passes-then s t u p q h0 h1 h2 (Ok done) a b = record {
+  written = a.written ++ b.written;
+  put = Appends-trans h0 h1 h2 a.written b.written a.put b.put;
+  taken = record {
+    whole = a.taken.whole ++ b.taken.whole;
+    cut = sym (append_assoc s.line p q) ∙ ap (λ (l : List ℕ). l ++ q) a.taken.cut ∙ append_assoc a.taken.whole t.line q ∙ ap (λ (l : List ℕ). a.taken.whole ++ l) b.taken.cut ∙ sym (append_assoc a.taken.whole b.taken.whole u.line);
+    goes_on = λ bytes.
+        ap (from_line comes s) (append_assoc a.taken.whole b.taken.whole bytes) ∙ a.taken.goes_on (b.taken.whole ++ bytes)
+        ∙ ap (with_front a.written) (b.taken.goes_on bytes) ∙ front-front a.written b.written (from_line comes u bytes);
+    begun = λ e. (let y = b.taken.begun e in let x = a.taken.begun y.0 in (x.0, ap (λ (l : List ℕ). l ++ b.taken.whole) x.1 ∙ y.1));
+  };
+}
+passes-then s t u p q h0 h1 h2 (Err e) a b = record {
+  written = a.written ++ b.written;
+  put = Appends-trans h0 h1 h2 a.written b.written a.put b.put;
+  taken = λ bytes.
+      subst (StopsPut e (a.written ++ b.written)) (sym (ap (λ (l : List ℕ). from_line comes s (s.line ++ l)) (append_assoc p q bytes) ∙ passed-found s t p a.written (q ++ bytes) a.taken))
+      (stops-behind e a.written b.written (from_line comes t (t.line ++ (q ++ bytes))) (b.taken bytes));
+}
+
+-- nothing was taken of the piece, then some, and then all, or it ended there
+pub some-none : (s : Reading Stage) (piece : List ℕ) (held : Option (List ℕ)) → PassesSome s piece s held held piece
+some-none s piece held = record {
+  taken = [];
+  whole = refl;
+  passed = record {
+    written = [];
+    put = Appends-nil held;
+    taken = record { whole = []; cut = append-nil s.line; goes_on = λ bytes. front-nil (from_line comes s bytes); begun = λ e. (e, refl) };
+  };
+}
+
+pub some-more : (s t u : Reading Stage) (piece rest left : List ℕ) (h0 h1 h2 : Option (List ℕ)) → PassesSome s piece t h0 h1 rest → PassesSome t rest u h1 h2 left → PassesSome s piece u h0 h2 left
+some-more s t u piece rest left h0 h1 h2 a b = record {
+  taken = a.taken ++ b.taken;
+  whole = a.whole ∙ ap (λ (l : List ℕ). a.taken ++ l) b.whole ∙ sym (append_assoc a.taken b.taken left);
+  passed = passes-then s t u a.taken b.taken h0 h1 h2 (Ok tt) a.passed b.passed;
+}
+
+pub some-all : (s t : Reading Stage) (piece rest : List ℕ) (h0 h1 : Option (List ℕ)) → PassesSome s piece t h0 h1 rest → rest ≡ [] → PassesPiece s piece t h0 h1 (Ok tt)
+some-all s t piece rest h0 h1 a none =
+    let all : piece ≡ a.taken = a.whole ∙ ap (λ (l : List ℕ). a.taken ++ l) none ∙ append-nil a.taken in
+    subst (λ (p : List ℕ). PassesPiece s p t h0 h1 (Ok tt)) (sym all) a.passed
+
+pub some-error : (s t u : Reading Stage) (piece rest : List ℕ) (h0 h1 h2 : Option (List ℕ)) (e : Stop) → PassesSome s piece t h0 h1 rest → PassesPiece t rest u h1 h2 (Err e) → PassesPiece s piece u h0 h2 (Err e)
+some-error s t u piece rest h0 h1 h2 e a b =
+    subst (λ (p : List ℕ). PassesPiece s p u h0 h2 (Err e)) (sym a.whole) (passes-then s t u a.taken rest h0 h1 h2 (Err e) a.passed b)
 
 -- ---- the end: what was to be written, and what of that was written
 
@@ -175,13 +247,6 @@ so-far-more l0 l1 l2 h0 h1 h2 t u piece s c p = record {
 all-found : (l0 l1 h0 h1 : Option (List ℕ)) (t : Reading Stage) (s : SoFar l0 l1 h0 h1 t) (more : List ℕ) → replayed_all (lines (s.taken ++ more)) ≡ with_front s.text (from_line comes t (t.line ++ more))
 all-found l0 l1 h0 h1 t s more =
     ap (λ (l : List ℕ). replayed_all (lines (l ++ more))) s.cut ∙ ap (λ (l : List ℕ). replayed_all (lines l)) (append_assoc s.whole t.line more) ∙ s.goes_on (t.line ++ more)
-
--- a text in front of what was written
-stops-behind : (e : Stop) (x text : List ℕ) (found : Replayed) → StopsPut e text found → StopsPut e (x ++ text) (with_front x found)
-stops-behind errors.Write x text found h = begins_behind x text found.text h
-stops-behind (errors.Refused line reason) x text found h = ap (with_front x) h
-stops-behind errors.Memory x text found h = begins_behind x text found.text h
-stops-behind errors.Read x text found h = h
 
 -- it ended before its schedule did
 by-error : (all : List ℕ) (left held now : Option (List ℕ)) (text : List ℕ) (e : Stop) → StopsPut e text (replayed_all (lines all)) → Appends held now text → Replays all left held now (ran_of (Err e))

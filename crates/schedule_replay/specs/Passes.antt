@@ -1,5 +1,6 @@
 -- What the bytes of a schedule do to the sink of its replay.
 use Rattle.std.specs.Prelude.{◌≡◌, ℕ, List, [], ◌++◌, Option, Result, Ok, Err}
+use Rattle.std.specs.Borrow.{Bor}
 use Rattle.std.specs.Io.KnownBytes.{Appends}
 use Rattle.outside.specs.declared.output.PutError.{PutError}
 use Rattle.outside.specs.declared.output.PutError.TheVariants as put_errors
@@ -41,6 +42,17 @@ pub record PassesPiece (s : Reading Stage) (piece : List ℕ) (t : Reading Stage
   pub written : List ℕ
   pub put : Appends held now written
   pub taken : TakesPiece s piece t written result
+
+-- a part of the piece was taken where this was written, and this is left of it
+pub record PassesSome (s : Reading Stage) (piece : List ℕ) (t : Reading Stage) (held now : Option (List ℕ)) (rest : List ℕ) : Type 0 where
+  pub taken : List ℕ
+  pub whole : piece ≡ taken ++ rest
+  pub passed : PassesPiece s taken t held now (Ok tt)
+
+-- A part of the piece was taken, and the rest is given back, or it ended there.
+abbrev pub PassesRun : Reading Stage → List ℕ → Reading Stage → Option (List ℕ) → Option (List ℕ) → Result (Bor (List ℕ)) Stop → Type 0
+PassesRun s piece t held now (Ok rest) = PassesSome s piece t held now rest.now
+PassesRun s piece t held now (Err e) = PassesPiece s piece t held now (Err e)
 
 abbrev pub TakesEnd : Reading Stage → List ℕ → Result (Unit {0}) Stop → Type 0
 TakesEnd s written (Ok done) = EndsWith written (found_now comes s)

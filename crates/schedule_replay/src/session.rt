@@ -1,12 +1,12 @@
 //! Replaying what a source gives into what a sink takes.
-ghost use Rattle.std.specs.Prelude.{◌≡◌, ◌≢◌, ℕ, ◌≤◌, ◌+◌, ◌⊎◌, [], None, Err, IfSome, OnOk, length};
+ghost use Rattle.std.specs.Prelude.{◌≡◌, ◌≢◌, ℕ, ◌≤◌, ◌<◌, ◌+◌, ◌⊎◌, [], None, Err, IfOk, IfSome, OnOk, length};
 ghost use Rattle.service_rules.specs.Schedules.{judge};
 ghost use Rattle.outside.specs.Causes.{Rose, Counts};
 ghost use Rattle.outside.specs.Outputs.{PutsAll};
 ghost use Rattle.line_pieces.specs.Readings.{IsBetweenBytes, room_left};
 ghost use Rattle.line_pieces.specs.States.{reading_of};
 ghost use Rattle.schedule_replay.specs.Stages.{IsEmptied, ready, text_in};
-ghost use Rattle.schedule_replay.specs.Passes.{IsFresh, PassesPiece, PassesEnd};
+ghost use Rattle.schedule_replay.specs.Passes.{IsFresh, PassesRun, PassesPiece, PassesEnd};
 ghost use Rattle.schedule_replay.specs.Runs.{Replays, ran_of};
 ghost use Rattle.schedule_replay.specs.Stories.{WritesStory};
 ghost use Rattle.tree_specs.specs.declared.schedule.Reason.{Reason};
@@ -29,6 +29,26 @@ fn put_text<K: Sink>(stage: &mut Stage, out: &mut K) -> Result<(), PutError>
     Ok(())
 }
 
+/// Takes the next bytes, as many as come before there is much to be written, and writes what comes of them, before an error
+/// too. What is left of the piece is to be taken next.
+fn take_run<'a, K: Sink>(
+    reader: &mut LineReader<Stage>,
+    piece: &'a [u8],
+    out: &mut K,
+) -> Result<&'a [u8], Stop>
+    requires ready { IsBetweenBytes ready (reading_of reader.old) }
+    ensures passed { PassesRun (reading_of reader.old) piece.now (reading_of reader.new) (K.held out.old) (K.held out.new) result }
+    ensures ready { OnOk result (IsBetweenBytes ready (reading_of reader.new)) }
+    ensures empty { OnOk result (text_in reader.new.taker ≡ []) }
+    ensures progress { IfOk result (λ rest. room_left (reading_of reader.new) + length piece.now ≤ room_left (reading_of reader.old) + length rest.now) }
+    ensures shorter { IfOk result (λ rest. 0 < length piece.now → length rest.now < length piece.now) }
+    ensures cause { Counts (K.faults out.old) (K.faults out.new) (result ≡ Err Stop.Write) }
+{
+    let taken = reader.feed_until_full(piece);
+    put_text(&mut reader.taker, out)?;
+    Ok(taken?)
+}
+
 /// Takes the next bytes, and writes what comes of them, before an error too.
 fn take_piece<K: Sink>(
     reader: &mut LineReader<Stage>,
@@ -36,15 +56,17 @@ fn take_piece<K: Sink>(
     out: &mut K,
 ) -> Result<(), Stop>
     requires ready { IsBetweenBytes ready (reading_of reader.old) }
+    requires empty { text_in reader.old.taker ≡ [] }
     ensures passed { PassesPiece (reading_of reader.old) piece.now (reading_of reader.new) (K.held out.old) (K.held out.new) result }
     ensures ready { OnOk result (IsBetweenBytes ready (reading_of reader.new)) }
     ensures empty { OnOk result (text_in reader.new.taker ≡ []) }
     ensures progress { OnOk result (room_left (reading_of reader.new) + length piece.now ≤ room_left (reading_of reader.old)) }
     ensures cause { Counts (K.faults out.old) (K.faults out.new) (result ≡ Err Stop.Write) }
 {
-    let taken = reader.feed(piece);
-    put_text(&mut reader.taker, out)?;
-    taken?;
+    let mut rest = piece;
+    'runs: while !rest.is_empty() {
+        rest = take_run(reader, rest, out)?;
+    }
     Ok(())
 }
 
@@ -97,8 +119,8 @@ fn run<S: Source, K: Sink>(alloc: Global, input: &mut S, out: &mut K) -> Result<
 /// Replays the schedule that the source gives into its transcript, which goes to the sink piece by
 /// piece.
 ///
-/// The memory that it takes is that of the rows that exist, of one line and of what 4,096 bytes of the
-/// schedule tell.
+/// The memory that it takes is that of the rows that exist, of one line, of 65,536 bytes that are to be written and of what
+/// one line tells.
 pub fn replay<S: Source, K: Sink>(alloc: Global, input: &mut S, out: &mut K) -> Ran
     // At the end all is read, no line is rejected and the transcript is written; a rejected line is the first one; at a
     // fault, and when memory runs out, a prefix of the transcript is written.

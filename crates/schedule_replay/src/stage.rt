@@ -18,6 +18,9 @@ use std::alloc::Global;
 use std::mem;
 use tree_specs::{Memory, Mode, Reason};
 
+/// With so many bytes to be written, no more lines are taken before they are.
+const FULL: usize = 65_536;
+
 /// What the first line says of those after it. None where it is no header.
 fn mode(header: &[u8]) -> Option<Mode>
     ensures { result ≡ mode_of header.now }
@@ -132,6 +135,11 @@ impl TakesLines for Stage {
             Stage::Pool(play) => play.take_line(number, line),
             Stage::Service(play) => play.take_line(number, line),
         }
+    }
+
+    #[inline(always)]
+    fn is_full(&self) -> bool {
+        self.text().len() >= FULL
     }
 
     fn refuse_limit(&mut self, number: u64) -> Stop {

@@ -19,7 +19,6 @@ use Rattle.tree_specs.specs.declared.frame.Frame.TheVariants as frame
 use Rattle.tree_specs.specs.declared.frame.CallFrame.TheVariants.{Asking, Doing, Awaiting, Turning, Requesting, Announcing, Telling, Returning}
 use Rattle.tree_specs.specs.declared.frame.OutsideFrame.TheVariants.{Opening, Hearing}
 use Rattle.tree_specs.specs.declared.frame.Errand.{Errand}
-use Rattle.tree_specs.specs.declared.frame.Errand.TheVariants.{Finish, Notify, Receive, Cancel}
 use Rattle.tree_specs.specs.declared.frame.Answer.{Answer}
 use Rattle.tree_specs.specs.declared.frame.Answer.TheVariants.{Heard}
 use Rattle.tree_specs.specs.Rules.Answers.{freed_reply}
@@ -43,7 +42,7 @@ use Rattle.service_rules.specs.Sent.{Ledger, answered, says, is_no_act}
 use Rattle.service_rules.specs.Fair.{is_fair}
 use Rattle.service_rules.proofs.Entries.{found-without, found-gone}
 use Rattle.service_rules.proofs.Owing.{IsKnown, Before, IsCallOf, IsCalm, Top, Below, Rest, Does as DoesCall, Outer, Fine}
-use Rattle.service_rules.proofs.Works.{IsWork, IsStart, LeadsWork}
+use Rattle.service_rules.proofs.Works.{IsWork, IsStart, LeadsWork, errand-starts}
 use Rattle.service_rules.proofs.Leading.{LeadsFine}
 use Rattle.service_rules.proofs.Seating.{Seats, LeadsSeats}
 use Rattle.service_rules.proofs.Sparing.{Tends, LeadsTends, Unless}
@@ -182,10 +181,7 @@ works-claims d l p (Do.Call h g q) fs leads r = start-claims d q h (g ∷ fs) le
 -- ---- calls
 
 errand-claims : (d : Knowledge) (p : Pool) (errand : Errand) (x : Obj) (fs : List Frame) → Claims d p (work_of errand x) fs
-errand-claims d p (Finish s) x fs = tt
-errand-claims d p Notify x fs = tt
-errand-claims d p Receive x fs = tt
-errand-claims d p Cancel x fs = tt
+errand-claims d p errand x fs = start-claims d p (work_of errand x) fs (errand-starts errand x)
 
 -- the host's own caller claims nothing
 pub rest-claims : (d : Knowledge) (p : Pool) (plan : Plan) (fs : List Frame) → LeadsClaims d (plan_step ask.Quiet plan p) fs

@@ -19,7 +19,7 @@ use Rattle.tree_specs.specs.Events.Descriptors.{Descriptors, listener_alone, is_
 use Rattle.tree_specs.proofs.Events.DescriptorLaws.{closed-other}
 use Rattle.tree_specs.proofs.Tree.Numbered.{by_test}
 use Rattle.service_rules.specs.Exchanges.{with_open, without_open}
-use Rattle.service_rules.proofs.Works.{closes}
+use Rattle.service_rules.proofs.Works.{CarriesNothing, closes}
 
 -- ---- what is open after one is opened or closed
 
@@ -89,6 +89,11 @@ abbrev pub Expects : (ℕ → Bool) → Pool → Frame → Type 0
 Expects known p (frame.Outside (Opening fd)) = known fd ≡ true
 Expects known p (frame.Call (Announcing q n r)) = IsClosed p n
 Expects known p f = Unit {0}
+
+pub carries-expects : (known : ℕ → Bool) (p : Pool) (f : Frame) → CarriesNothing f → Expects known p f
+carries-expects known p (frame.Call (Announcing q n r)) c = absurd c
+carries-expects known p (frame.Outside (Opening fd)) c = absurd c
+carries-expects known p _ c = tt
 
 pub record Follows (known : ℕ → Bool) (f : Frame) (p : Pool) : Type 0 where
   pub all : AllKnown known p.descriptors

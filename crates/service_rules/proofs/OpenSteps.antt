@@ -16,8 +16,6 @@ use Rattle.tree_specs.specs.declared.frame.Frame.TheVariants as frame
 use Rattle.tree_specs.specs.declared.frame.CallFrame.TheVariants.{Asking, Doing, Awaiting, Turning, Requesting, Announcing, Telling, Returning}
 use Rattle.tree_specs.specs.declared.frame.TurnFrame.TheVariants.{Timing, Polling}
 use Rattle.tree_specs.specs.declared.frame.OutsideFrame.TheVariants.{Reaching, Opening, Hearing}
-use Rattle.tree_specs.specs.declared.frame.Errand.{Errand}
-use Rattle.tree_specs.specs.declared.frame.Errand.TheVariants.{Finish, Notify, Receive, Cancel}
 use Rattle.tree_specs.specs.declared.frame.Answer.{Answer}
 use Rattle.tree_specs.specs.Tree.Pool.{Pool, open_descriptor}
 use Rattle.tree_specs.specs.Tree.Targets.{newest_ref}
@@ -32,13 +30,12 @@ use Rattle.tree_specs.specs.Invariants.Sound.{AllWait}
 use Rattle.tree_specs.specs.Invariants.Consistent.{IsConsistent}
 use Rattle.tree_specs.proofs.Tree.Numbered.{by_test}
 use Rattle.tree_specs.proofs.Calls.Checks.{planned-by}
-use Rattle.tree_specs.proofs.Invariants.Waiters.{Waiter, waiter}
-use Rattle.tree_specs.proofs.Invariants.Waiters.Waiter.{ForFree, ForRun, ForChild, ForTurn, ForHandler, ForClear, ForRequest, ForServed, ForReceived, ForDrained, ForRoutine, ForRelease, ForEntry}
+use Rattle.tree_specs.proofs.Invariants.Waiters.{waiter}
 use Rattle.tree_stories.proofs.Outsides.{AsksOutside}
 use Rattle.service_rules.specs.Exchanges.{Suits}
-use Rattle.service_rules.proofs.Works.{IsStart, LeadsWork, works}
-use Rattle.service_rules.proofs.OpenDescriptors.{AllKnown, known_after, IsClosed, Expects, Follows, opened-known, closed-known, closed-same, told-known, event-known}
-use Rattle.service_rules.proofs.SuitingTaken.{IsNew, Taken, work-expects, asking-takes, timing-takes, polling-takes, reaching-takes}
+use Rattle.service_rules.proofs.Works.{LeadsWork, resumed-carries, work-carries, start-carries, errand-starts, works}
+use Rattle.service_rules.proofs.OpenDescriptors.{AllKnown, known_after, IsClosed, Expects, Follows, carries-expects, opened-known, closed-known, closed-same, told-known, event-known}
+use Rattle.service_rules.proofs.SuitingTaken.{IsNew, Taken, asking-takes, timing-takes, polling-takes, reaching-takes}
 
 -- what a move leads to; an answer that suits is taken
 abbrev pub LeadsFollowing : (ℕ → Bool) → Step → List Frame → Type 0
@@ -89,49 +86,22 @@ module _ (known : ℕ → Bool) (fs : List Frame) (p : Pool) (all : AllKnown kno
   done-follows : (a : Answer) (q : Pool) → AllKnown known q.descriptors → AllWait fs → LeadsFollowing known (Do.Done a q) fs
   done-follows a q still w = each fs w
     where
-      resumed : (g : Frame) → Waiter g → Expects known q (resume g a)
-      resumed _ (ForFree c x) = tt
-      resumed _ (ForRun x h) = tt
-      resumed _ (ForChild x c noted purpose) = tt
-      resumed _ (ForTurn c) = tt
-      resumed _ (ForHandler what x handler occasion) = tt
-      resumed _ (ForClear x) = tt
-      resumed _ (ForRequest c) = tt
-      resumed _ (ForServed x) = tt
-      resumed _ (ForReceived x) = tt
-      resumed _ (ForDrained x) = tt
-      resumed _ (ForRoutine what x handler errand) = tt
-      resumed _ (ForRelease c) = tt
-      resumed _ (ForEntry c e) = tt
-
       each : (gs : List Frame) → AllWait gs → LeadsFollowing known (Do.Done a q) gs
       each [] w = tt
-      each (g ∷ gs) w = record { all = still; expects = resumed g (waiter g gs w.0) }
-
-  start-expects : (q : Pool) (g : Frame) → IsStart g → Expects known q g
-  start-expects q (frame.Call (Asking x)) s = tt
-  start-expects q (frame.Call _) s = absurd s
-  start-expects q (frame.Outside f) s = absurd s
-  start-expects q _ s = tt
+      each (g ∷ gs) w = record { all = still; expects = carries-expects known q (resume g a) (resumed-carries a g (waiter g gs w.0)) }
 
   works-follow : (m : Step) → LeadsWork p m → AllWait fs → LeadsFollowing known m fs
   works-follow (Do.Done a q) leads w = done-follows a q (subst (AllKnown known) (sym leads.1) all) w
-  works-follow (Do.Go g q) leads w = record { all = subst (AllKnown known) (sym leads.2) all; expects = work-expects known q g leads.0 }
-  works-follow (Do.Emit (Told e) g q) leads w = record { all = subst (AllKnown (known_after known e)) (sym leads.3) (event-known known p.descriptors e all); expects = work-expects (known_after known e) q g leads.1 }
+  works-follow (Do.Go g q) leads w = record { all = subst (AllKnown known) (sym leads.2) all; expects = carries-expects known q g (work-carries g leads.0) }
+  works-follow (Do.Emit (Told e) g q) leads w = record { all = subst (AllKnown (known_after known e)) (sym leads.3) (event-known known p.descriptors e all); expects = carries-expects (known_after known e) q g (work-carries g leads.1) }
   works-follow (Do.Emit (Asked x) g q) leads w = tt
   works-follow (Do.Wait (Told e) g q) leads w = tt
   works-follow (Do.Wait (Asked ask.Clock) (frame.Turn (Timing again)) q) leads w = (subst (AllKnown known) (sym leads.3) all, λ i s new. timing-takes known q again i s)
   works-follow (Do.Wait (Asked (ask.Wait limit)) (frame.Turn (Polling most)) q) leads w = (subst (AllKnown known) (sym leads.3) all, λ i s new. polling-takes known q limit most leads.2 i s)
   works-follow (Do.Wait (Asked _) _ q) leads w = absurd leads.0
-  works-follow (Do.Call h g q) leads w = record { all = subst (AllKnown known) (sym leads.3) all; expects = start-expects q h leads.0 }
+  works-follow (Do.Call h g q) leads w = record { all = subst (AllKnown known) (sym leads.3) all; expects = carries-expects known q h (start-carries h leads.0) }
 
   -- ---- calls
-
-  errand-expects : (q : Pool) (errand : Errand) (x : Obj) → Expects known q (work_of errand x)
-  errand-expects q (Finish s) x = tt
-  errand-expects q Notify x = tt
-  errand-expects q Receive x = tt
-  errand-expects q Cancel x = tt
 
   plan-follows : (q : Ask) (plan : Plan) → ClosesFirst p plan → LeadsFollowing known (plan_step q plan p) fs
   plan-follows q (Does change None r) first = record { all = changed-known known change p all; expects = tt }
@@ -142,7 +112,7 @@ module _ (known : ℕ → Bool) (fs : List Frame) (p : Pool) (all : AllKnown kno
   plan-follows q (Asks outside) first = record { all = all; expects = tt }
   plan-follows ask.Quiet Turns first = record { all = all; expects = tt }
   plan-follows _ Turns first = record { all = all; expects = tt }
-  plan-follows q (Works change errand x) first = record { all = changed-known known change p all; expects = errand-expects (changed_by change p) errand x }
+  plan-follows q (Works change errand x) first = record { all = changed-known known change p all; expects = carries-expects known (changed_by change p) (work_of errand x) (start-carries (work_of errand x) (errand-starts errand x)) }
 
   announced-follows : (q : Ask) (n : Notice) (r : Reply) → IsClosed p n → Follows (known_after known (notice_event n)) (frame.Call (Telling q r)) p
   announced-follows q (notice.Warned x) r closed = record { all = all; expects = tt }

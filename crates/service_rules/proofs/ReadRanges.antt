@@ -20,8 +20,6 @@ use Rattle.tree_specs.specs.declared.frame.Frame.{Frame}
 use Rattle.tree_specs.specs.declared.frame.Frame.TheVariants as frame
 use Rattle.tree_specs.specs.declared.frame.CallFrame.TheVariants.{Asking, Doing, Awaiting, Turning, Requesting, Announcing, Telling, Returning}
 use Rattle.tree_specs.specs.declared.frame.OutsideFrame.TheVariants.{Reaching, Opening, Hearing}
-use Rattle.tree_specs.specs.declared.frame.Errand.{Errand}
-use Rattle.tree_specs.specs.declared.frame.Errand.TheVariants.{Finish, Notify, Receive, Cancel}
 use Rattle.tree_specs.specs.declared.frame.Answer.{Answer}
 use Rattle.tree_specs.specs.Tree.Pool.{Pool, empty, open_descriptor}
 use Rattle.tree_specs.specs.Tree.Targets.{newest_ref}
@@ -43,8 +41,7 @@ use Rattle.tree_specs.specs.Invariants.Consistent.{IsConsistent}
 use Rattle.tree_specs.proofs.Tree.Numbered.{by_test}
 use Rattle.tree_specs.proofs.Calls.Checks.{both-true, planned-by, Reached, reached-leads}
 use Rattle.tree_specs.proofs.Calls.Checks.Reached.{ReachedOpening, ReachedHearing}
-use Rattle.tree_specs.proofs.Invariants.Waiters.{Waiter, waiter}
-use Rattle.tree_specs.proofs.Invariants.Waiters.Waiter.{ForFree, ForRun, ForChild, ForTurn, ForHandler, ForClear, ForRequest, ForServed, ForReceived, ForDrained, ForRoutine, ForRelease, ForEntry}
+use Rattle.tree_specs.proofs.Invariants.Waiters.{waiter}
 use Rattle.tree_specs.proofs.Promises.Causes.{NotedWork}
 use Rattle.tree_specs.proofs.Promises.Fine.{taken-noted}
 use Rattle.tree_specs.proofs.Promises.Fine as fine
@@ -57,7 +54,7 @@ use Rattle.service_rules.specs.Service.{machine, answers, own, heard, told, kind
 use Rattle.service_rules.specs.ReadRanges.{ReadsAreInRange, reads_in_range, shows_in_range}
 use Rattle.service_rules.specs.Watching.{Shown, watched, watching}
 use Rattle.service_rules.proofs.SuitingTaken.{IsOfCaller, caller}
-use Rattle.service_rules.proofs.Works.{IsEvent, IsWork, IsStart, IsOfTurn, LeadsWork, works}
+use Rattle.service_rules.proofs.Works.{IsEvent, IsOfTurn, CarriesNothing, LeadsWork, resumed-carries, work-carries, start-carries, errand-starts, works}
 
 -- ---- what a work of a host has to do with reads
 
@@ -82,35 +79,14 @@ LeadsRanges (Do.Call g f q) fs = HasRanges g
 
 -- ---- works that are no caller's
 
+carries-ranges : (f : Frame) → CarriesNothing f → HasRanges f
+carries-ranges (frame.Call (Doing q c)) n = absurd n
+carries-ranges (frame.Outside (Reaching q)) n = absurd n
+carries-ranges _ n = tt
+
 done-ranges : (a : Answer) (q : Pool) (fs : List Frame) → AllWait fs → LeadsRanges (Do.Done a q) fs
 done-ranges a q [] w = tt
-done-ranges a q (g ∷ gs) w = each g (waiter g gs w.0)
-  where
-    each : (g : Frame) → Waiter g → HasRanges (resume g a)
-    each _ (ForFree q x) = tt
-    each _ (ForRun x h) = tt
-    each _ (ForChild x c noted purpose) = tt
-    each _ (ForTurn q) = tt
-    each _ (ForHandler what x handler occasion) = tt
-    each _ (ForClear x) = tt
-    each _ (ForRequest q) = tt
-    each _ (ForServed x) = tt
-    each _ (ForReceived x) = tt
-    each _ (ForDrained x) = tt
-    each _ (ForRoutine what x handler errand) = tt
-    each _ (ForRelease c) = tt
-    each _ (ForEntry q e) = tt
-
-work-ranges : (f : Frame) → IsWork f → HasRanges f
-work-ranges (frame.Call f) w = absurd w
-work-ranges (frame.Outside f) w = absurd w
-work-ranges _ w = tt
-
-start-ranges : (f : Frame) → IsStart f → HasRanges f
-start-ranges (frame.Call (Asking q)) s = tt
-start-ranges (frame.Call _) s = absurd s
-start-ranges (frame.Outside f) s = absurd s
-start-ranges _ s = tt
+done-ranges a q (g ∷ gs) w = carries-ranges (resume g a) (resumed-carries a g (waiter g gs w.0))
 
 turn-ranges : (e : Item) (f : Frame) → IsOfTurn e f → item_in_range e ≡ true
 turn-ranges (Told e) f o = absurd o
@@ -124,10 +100,10 @@ told-ranges (Asked q) i = absurd i
 
 works-ranges : (p : Pool) (m : Step) (fs : List Frame) → LeadsWork p m → AllWait fs → LeadsRanges m fs
 works-ranges p (Do.Done a q) fs leads w = done-ranges a q fs w
-works-ranges p (Do.Go g q) fs leads w = work-ranges g leads.0
-works-ranges p (Do.Emit e g q) fs leads w = (told-ranges e leads.0, work-ranges g leads.1)
-works-ranges p (Do.Wait e g q) fs leads w = (turn-ranges e g leads.0, λ i h t. work-ranges h (leads.2 i h t))
-works-ranges p (Do.Call h g q) fs leads w = start-ranges h leads.0
+works-ranges p (Do.Go g q) fs leads w = carries-ranges g (work-carries g leads.0)
+works-ranges p (Do.Emit e g q) fs leads w = (told-ranges e leads.0, carries-ranges g (work-carries g leads.1))
+works-ranges p (Do.Wait e g q) fs leads w = (turn-ranges e g leads.0, λ i h t. carries-ranges h (work-carries h (leads.2 i h t)))
+works-ranges p (Do.Call h g q) fs leads w = carries-ranges h (start-carries h leads.0)
 
 -- ---- calls
 
@@ -153,12 +129,6 @@ plan-asks p c sound = planned-by AsksInRange p c (λ passed. each c sound) (λ r
     each (call.Start q) s = by_test (runs p.queues q) (λ t. rw t tt) (λ t. rw t tt)
     each _ s = tt
 
-errand-ranges : (errand : Errand) (x : Obj) → HasRanges (work_of errand x)
-errand-ranges (Finish s) x = tt
-errand-ranges Notify x = tt
-errand-ranges Receive x = tt
-errand-ranges Cancel x = tt
-
 plan-ranges : (q : Ask) (plan : Plan) (p : Pool) (fs : List Frame) → AsksInRange plan → LeadsRanges (plan_step q plan p) fs
 plan-ranges q (Does change None r) p fs asks = tt
 plan-ranges q (Does change (Some n) r) p fs asks = tt
@@ -168,7 +138,7 @@ plan-ranges q (Empties x) p fs asks = tt
 plan-ranges q (Asks outside) p fs asks = asks
 plan-ranges ask.Quiet Turns p fs asks = tt
 plan-ranges _ Turns p fs asks = tt
-plan-ranges q (Works change errand x) p fs asks = errand-ranges errand x
+plan-ranges q (Works change errand x) p fs asks = carries-ranges (work_of errand x) (start-carries (work_of errand x) (errand-starts errand x))
 
 -- a call is only taken where its numbers have their ranges
 call-ranges : (q : Ask) (o : Option Given) (g : Frame) → led (doing q) returning o ≡ Some g → HasRanges g

@@ -30,14 +30,8 @@ use Rattle.tree_specs.proofs.Calls.Checks.{both-true}
 use Rattle.tree_specs.proofs.Calls.Plans.{IsOutside}
 use Rattle.tree_specs.proofs.Tree.Numbered.{by_test}
 use Rattle.service_rules.specs.Exchanges.{Suits}
-use Rattle.service_rules.proofs.Works.{IsWork}
-use Rattle.service_rules.proofs.OpenDescriptors.{AllKnown, known_with, Expects}
-
--- works expect nothing
-pub work-expects : (known : ℕ → Bool) (p : Pool) (f : Frame) → IsWork f → Expects known p f
-work-expects known p (frame.Call f) w = absurd w
-work-expects known p (frame.Outside f) w = absurd w
-work-expects known p _ w = tt
+use Rattle.service_rules.proofs.Works.{IsWork, work-carries}
+use Rattle.service_rules.proofs.OpenDescriptors.{AllKnown, known_with, Expects, carries-expects}
 
 -- a descriptor that is accepted isn't known to be open
 abbrev pub IsNew : (ℕ → Bool) → Input → Type 0
@@ -96,7 +90,7 @@ module _ (known : ℕ → Bool) (p : Pool) where
   polling-takes limit most works (input.Ready wants) s =
       let g : Frame = looked_turn p wants in
       let e : taken (frame.Turn (Polling most)) p (input.Ready wants) ≡ Some g = if-true (is_wants wants) g s.sound in
-      (g, e, work-expects known p g (works (input.Ready wants) g e))
+      (g, e, carries-expects known p g (work-carries g (works (input.Ready wants) g e)))
   polling-takes limit most works _ s = let bad = s.fits in cc
 
   -- ---- the outside

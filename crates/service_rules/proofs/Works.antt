@@ -1,5 +1,5 @@
 -- The works of a host that are no caller's: they lead to works and to routines that begin, take no number, and close only the
--- descriptor that they tell.
+-- descriptor that they tell. No work, no routine that begins and nothing that is resumed carries anything.
 use Rattle.std.proofs.Common.{◌≡◌, Bool, true, false, Option, Some, None, refl, sym, subst}
 use Rattle.step_machine.specs.Machine.{Move as Do}
 use Rattle.std.specs.Prelude.{ℕ, nat_eq, nat_le}
@@ -18,7 +18,7 @@ use Rattle.tree_specs.specs.declared.question.Ask.TheVariants.{Routine, Clock, W
 use Rattle.tree_specs.specs.declared.question.Input.{Input}
 use Rattle.tree_specs.specs.declared.frame.Frame.{Frame}
 use Rattle.tree_specs.specs.declared.frame.Frame.TheVariants as frame
-use Rattle.tree_specs.specs.declared.frame.CallFrame.TheVariants.{Asking}
+use Rattle.tree_specs.specs.declared.frame.CallFrame.TheVariants.{Asking, Doing, Announcing}
 use Rattle.tree_specs.specs.declared.frame.FreeFrame.{FreeFrame}
 use Rattle.tree_specs.specs.declared.frame.FreeFrame.TheVariants.{Unlinking, Releasing, Giving, Beginning, Hooked, Judged, Preparing, Prepared, Dooming, Draining, Leaving, Looping, FreeingChild, AfterChild, Ending}
 use Rattle.tree_specs.specs.declared.frame.Purpose.{Purpose}
@@ -29,6 +29,8 @@ use Rattle.tree_specs.specs.declared.frame.RequestFrame.{RequestFrame}
 use Rattle.tree_specs.specs.declared.frame.RequestFrame.TheVariants as request
 use Rattle.tree_specs.specs.declared.frame.Errand.{Errand}
 use Rattle.tree_specs.specs.declared.frame.Errand.TheVariants.{Finish, Notify, Receive, Cancel}
+use Rattle.tree_specs.specs.declared.frame.OutsideFrame.TheVariants.{Reaching, Opening}
+use Rattle.tree_specs.specs.declared.frame.Answer.{Answer}
 use Rattle.tree_specs.specs.declared.free_step.FreeReply.{FreeReply}
 use Rattle.tree_specs.specs.declared.free_step.FreeReply.TheVariants as free_reply
 use Rattle.tree_specs.specs.declared.moment.What.{What}
@@ -48,9 +50,11 @@ use Rattle.tree_specs.specs.Events.Requests.{note_of, is_noted, is_unreceived, c
 use Rattle.tree_specs.specs.Rules.Items.{Item}
 use Rattle.tree_specs.specs.Rules.Items.Item.{Told, Asked}
 use Rattle.tree_specs.specs.Machine.FreeTable.{FreeMove, free_step, begin_step, begin_by, unlink_step, release_step, refs_step, loop_step, last_step, child_step, tried_step, hand_on_step}
-use Rattle.tree_specs.specs.Machine.Table.{Step, step, taken, run_for, announced, event_of, closed_event, lifted, work_of, due_now, due_step, taking_step, early_step, timed_step, starting_step, handled_step, turn_step, cancelling_step, cleaning_step, release_object, cleaned_step, callback_step, notifying_step, receiving_step, vacating_step, triggering_step, request_step}
+use Rattle.tree_specs.specs.Machine.Table.{Step, step, resume, taken, run_for, announced, event_of, closed_event, lifted, work_of, due_now, due_step, taking_step, early_step, timed_step, starting_step, handled_step, turn_step, cancelling_step, cleaning_step, release_object, cleaned_step, callback_step, notifying_step, receiving_step, vacating_step, triggering_step, request_step}
 use Rattle.tree_specs.proofs.Tree.Numbered.{by_test}
 use Rattle.tree_specs.proofs.Invariants.Turning.{Passes, Pass, Serve, Trigger, IsLook, look-passes, taken-plain}
+use Rattle.tree_specs.proofs.Invariants.Waiters.{Waiter}
+use Rattle.tree_specs.proofs.Invariants.Waiters.Waiter.{ForFree, ForRun, ForChild, ForTurn, ForHandler, ForClear, ForRequest, ForServed, ForReceived, ForDrained, ForRoutine, ForRelease, ForEntry}
 
 abbrev pub IsWork : Frame → Type 0
 IsWork (frame.Call f) = ⊥
@@ -63,6 +67,15 @@ IsStart (frame.Call (Asking (Routine m))) = (m.last ≡ None) × (m.step ≡ 0)
 IsStart (frame.Call f) = ⊥
 IsStart (frame.Outside f) = ⊥
 IsStart f = Unit {0}
+
+-- a work that carries nothing: no call that is to be done, no notice that is to be told, no question that is put to the outside, and no
+-- descriptor that is to be opened
+abbrev pub CarriesNothing : Frame → Type 0
+CarriesNothing (frame.Call (Doing q c)) = ⊥
+CarriesNothing (frame.Call (Announcing q n r)) = ⊥
+CarriesNothing (frame.Outside (Reaching q)) = ⊥
+CarriesNothing (frame.Outside (Opening fd)) = ⊥
+CarriesNothing f = Unit {0}
 
 abbrev pub IsEvent : Item → Type 0
 IsEvent (Told e) = Unit {0}
@@ -89,6 +102,35 @@ LeadsWork p (Do.Go g q) = IsWork g × (q.next ≡ p.next) × (q.descriptors ≡ 
 LeadsWork p (Do.Emit e g q) = IsEvent e × IsWork g × (q.next ≡ p.next) × (q.descriptors ≡ shut p.descriptors (closes_told e))
 LeadsWork p (Do.Wait e g q) = IsOfTurn e g × (q.next ≡ p.next) × ((i : Input) (h : Frame) → taken g q i ≡ Some h → IsWork h) × (q.descriptors ≡ p.descriptors)
 LeadsWork p (Do.Call h g q) = IsStart h × IsWork g × (q.next ≡ p.next) × (q.descriptors ≡ p.descriptors)
+
+-- ---- what carries nothing
+
+-- what waited for the work above it
+pub resumed-carries : (a : Answer) (g : Frame) → Waiter g → CarriesNothing (resume g a)
+resumed-carries a _ (ForFree q x) = tt
+resumed-carries a _ (ForRun x h) = tt
+resumed-carries a _ (ForChild x c noted purpose) = tt
+resumed-carries a _ (ForTurn q) = tt
+resumed-carries a _ (ForHandler what x handler occasion) = tt
+resumed-carries a _ (ForClear x) = tt
+resumed-carries a _ (ForRequest q) = tt
+resumed-carries a _ (ForServed x) = tt
+resumed-carries a _ (ForReceived x) = tt
+resumed-carries a _ (ForDrained x) = tt
+resumed-carries a _ (ForRoutine what x handler errand) = tt
+resumed-carries a _ (ForRelease c) = tt
+resumed-carries a _ (ForEntry q e) = tt
+
+pub work-carries : (f : Frame) → IsWork f → CarriesNothing f
+work-carries (frame.Call f) w = absurd w
+work-carries (frame.Outside f) w = absurd w
+work-carries _ w = tt
+
+pub start-carries : (f : Frame) → IsStart f → CarriesNothing f
+start-carries (frame.Call (Asking q)) s = tt
+start-carries (frame.Call _) s = absurd s
+start-carries (frame.Outside f) s = absurd s
+start-carries _ s = tt
 
 -- ---- freeing
 
@@ -186,7 +228,7 @@ free-works p (Do.Call g f q) n = (tt, tt, n.0, n.1)
 
 -- ---- turns
 
-errand-starts : (errand : Errand) (x : Obj) → IsStart (work_of errand x)
+pub errand-starts : (errand : Errand) (x : Obj) → IsStart (work_of errand x)
 errand-starts (Finish s) x = tt
 errand-starts Notify x = tt
 errand-starts Receive x = tt

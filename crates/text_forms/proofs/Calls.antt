@@ -188,7 +188,7 @@ one_more f reading next word more c is sound feeds rest = record {
 }
 
 -- a field was read, and this was made of its value and of the words after it
-has_field : {A B : Type 0} {reader : List ℕ → Option A} {spell : A → List ℕ} {is_sound : A → Bool} (field : IsField reader spell is_sound) (word : List ℕ) (more : List (List ℕ)) (after : A → List (List ℕ) → Option B) (result : B)
+pub has_field : {A B : Type 0} {reader : List ℕ → Option A} {spell : A → List ℕ} {is_sound : A → Bool} (field : IsField reader spell is_sound) (word : List ℕ) (more : List (List ℕ)) (after : A → List (List ℕ) → Option B) (result : B)
     → (((reader word) leaving more) >>= λ x. after x.0 x.1) ≡ Some result → HasRead spell is_sound word (λ x. after x more) result
 has_field {A} {B} {reader} field word more after result e = has_read field word (λ x. after x more) result (sym (then_after (reader word)) ∙ e)
   where

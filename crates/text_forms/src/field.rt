@@ -15,9 +15,10 @@ use std::alloc::Global;
 use std::marker::Model;
 use tree_specs::{Name, Obj, Octets, Owner};
 
-/// The number that the text's first word spells, and what follows the space behind the word, where there is one.
+/// The number that the text's first word spells, and what follows the space behind the word, where there is one. None
+/// exactly where the word spells no number below 2 ^ 64.
 #[tactic(auto, using(crate::proofs::Cursor::number_field))]
-fn number_field(text: &[u8]) -> Option<(u64, Option<&[u8]>)>
+pub fn number_field(text: &[u8]) -> Option<(u64, Option<&[u8]>)>
     ensures { option_map (λ r. (r.0, words_left r.1)) result ≡ field number_of (words text.now) }
 {
     let (n, rest) = leading_number(text)?;

@@ -24,6 +24,7 @@ mod verb_words;
 
 pub use call_reader::read_call;
 pub use call_writer::{the_bytes_of_a_call_are_bytes, write_call};
+pub use field::number_field;
 pub use form::FormFault;
 pub use name::read_name;
 pub use number::{read_length, read_number, read_positive, read_time, read_u32, write_number};

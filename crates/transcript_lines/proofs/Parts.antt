@@ -8,12 +8,12 @@ use Rattle.tree_specs.specs.declared.object.Owner.{Owner}
 use Rattle.tree_specs.specs.Calls.Spelling.{Numeral}
 use Rattle.tree_specs.specs.Calls.Spelling.Numeral.{Number, Number32}
 use Rattle.tree_specs.specs.Calls.Spelling.Field.{AnOwner, AnObject, ANumeral, AName, SomeBytes}
-use Rattle.tree_specs.specs.Texts.Grammar.{◌>>=◌, ◌leaving◌}
 use Rattle.tree_specs.specs.Texts.Text.{field_text}
 use Rattle.tree_specs.specs.Words.Names.{is_name}
 use Rattle.tree_specs.specs.Words.Ranges.{is_number, is_in, is_sound_owner}
 use Rattle.text_forms.proofs.Bools.{and_true}
-use Rattle.text_forms.proofs.Fields.{IsField, HasRead, has_read, numeral_field, owner_field, object_field, name_field}
+use Rattle.text_forms.proofs.Calls.{has_field}
+use Rattle.text_forms.proofs.Fields.{numeral_field, owner_field, object_field, name_field}
 use Rattle.text_forms.proofs.Hexadecimal.{octets_field}
 use Rattle.transcript_lines.specs.Lines.{Line, Form, read, Part, part_text, words_of, is_sound_part}
 use Rattle.transcript_lines.specs.Lines.Form.{Fails, Done, IfWord, MayEnd, TakesNumeral, TakesObject, TakesOwner, EndsInName, EndsInBytes}
@@ -93,7 +93,7 @@ read_again _ ps l h e = absurd cc
 
 -- ---- from a line to parts
 
--- the words are the words_of of sound parts, of which the line is made
+-- the words are those of sound parts, of which the line is made
 pub record IsFed (form : Form) (ws : List (List ℕ)) (l : Line) : Type 0 where
   pub parts : List Part
   pub words_are : ws ≡ words_of parts
@@ -107,15 +107,6 @@ one_more p form next word more l is sound feeds rest = record {
   fit = rw (sound, rest.fit) refl;
   made = feeds rest.parts ∙ rest.made;
 }
-
--- a field was read, and this was made of its value and of the words after it
-has_field : {A B : Type 0} {reader : List ℕ → Option A} {spell : A → List ℕ} {is_sound : A → Bool} (field : IsField reader spell is_sound) (word : List ℕ) (more : List (List ℕ)) (after : A → List (List ℕ) → Option B) (result : B)
-    → (((reader word) leaving more) >>= λ x. after x.0 x.1) ≡ Some result → HasRead spell is_sound word (λ x. after x more) result
-has_field {A} {B} {reader} field word more after result e = has_read field word (λ x. after x more) result (sym (then_after (reader word)) ∙ e)
-  where
-    then_after : (value : Option A) → ((value leaving more) >>= λ x. after x.0 x.1) ≡ (value >>= λ x. after x more)
-    then_after None = refl
-    then_after (Some x) = refl
 
 feed_numeral : (kind : Numeral) (n : ℕ) (next : ℕ → Form) (h : same_kind kind kind ≡ true) (ps : List Part) → feed (TakesNumeral kind next) (AField (ANumeral kind n) ∷ ps) ≡ feed (next n) ps
 unfolding feed

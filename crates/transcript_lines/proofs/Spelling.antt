@@ -28,8 +28,8 @@ use Rattle.tree_specs.specs.Words.Ranges.{is_number, is_in, is_sound_owner}
 use Rattle.text_forms.proofs.Bools.{and_true}
 use Rattle.text_forms.proofs.Fields.{number_field, numeral_field, owner_field, object_field, name_field}
 use Rattle.text_forms.proofs.Hexadecimal.{octets_field}
-use Rattle.text_forms.proofs.Words.{is_unspaced, joined, words-joined, joined-words}
-use Rattle.transcript_lines.specs.Lines.{Line, Form, read, Part, part_text, words_of, is_sound_part, parts_of, line_text, is_sound_line, is_line, plain_ask, plain, line_form, line_of, a_what, a_row_kind, moment_form, row_end, row_form, refusal_form, reply_form, outside_form, ask_form, end_form, fired_end, object, number, small_number, refusal_parts, reply_parts, event_parts, ask_parts}
+use Rattle.text_forms.proofs.Words.{lacks, is_unspaced, joined, words-joined, joined-words}
+use Rattle.transcript_lines.specs.Lines.{Line, Form, read, Part, part_text, words_of, is_sound_part, parts_of, line_text, is_sound_line, is_line, plain_ask, plain, line_form, line_of, a_what, a_row_kind, moment_form, row_end, row_form, refusal_form, number_end, reply_form, outside_form, ask_form, end_form, fired_end, object, number, small_number, refusal_parts, reply_parts, event_parts, ask_parts}
 use Rattle.transcript_lines.specs.Lines.Line.{Row, Rows, Tells, Asks, Ends}
 use Rattle.transcript_lines.specs.Lines.Form.{Fails, Done, IfWord, MayEnd, TakesNumeral, TakesObject, TakesOwner, EndsInName, EndsInBytes}
 use Rattle.transcript_lines.specs.Lines.Part.{AWord, AField}
@@ -156,23 +156,10 @@ fed_ask line other (asks.Routine m) quiet = feed_what m.what (moment_form line) 
 fed_ask line other asks.Quiet quiet = quiet refl
 fed_ask line other _ quiet = refl
 
-fed_number : (n : ℕ) → is_number n ≡ true → feed reply_form (number n ∷ []) ≡ Some (Tells (events.Replied (replies.Number n)))
+-- what stands behind a first number is for the form of a second one
+fed_numbers : (n : ℕ) (more : List Part) → is_number n ≡ true → feed reply_form (number n ∷ more) ≡ feed (number_end n) more
 unfolding feed number_of
-fed_number n h =
-    rw (
-      no_word n (codes "ok") h refl,
-      no_word n (codes "no") h refl,
-      no_word n (codes "rows") h refl,
-      no_word n (codes "got") h refl,
-      no_word n (codes "again") h refl,
-      no_word n (codes "fault") h refl,
-      no_word n (codes "end") h refl,
-    )
-    refl
-
-fed_pair : (n m : ℕ) → is_number n ≡ true → feed reply_form (number n ∷ number m ∷ []) ≡ Some (Tells (events.Replied (replies.Pair n m)))
-unfolding feed number_of
-fed_pair n m h =
+fed_numbers n more h =
     rw (
       no_word n (codes "ok") h refl,
       no_word n (codes "no") h refl,
@@ -200,11 +187,11 @@ fed (Ends q) sound h = fed_ask Ends (IfWord (codes "quiet") (Done (Ends asks.Qui
   where
     open_one : asks.Quiet ≡ q → feed (ask_form Ends (IfWord (codes "quiet") (Done (Ends asks.Quiet)) Fails)) (ask_parts q) ≡ Some (Ends q)
     open_one e = rw (sym e) refl
-fed (Tells (events.Replied (replies.Number n))) sound h = fed_number n (number_fits n sound)
+fed (Tells (events.Replied (replies.Number n))) sound h = fed_numbers n [] (number_fits n sound)
   where
     number_fits : (n : ℕ) → ((is_number n && true) && true) ≡ true → is_number n ≡ true
     number_fits n s = (and_true (is_number n) true (and_true (is_number n && true) true s).0).0
-fed (Tells (events.Replied (replies.Pair n m))) sound h = fed_pair n m (first_fits n m sound)
+fed (Tells (events.Replied (replies.Pair n m))) sound h = fed_numbers n (number m ∷ []) (first_fits n m sound)
   where
     first_fits : (n m : ℕ) → ((is_number n && true) && ((is_number m && true) && true)) ≡ true → is_number n ≡ true
     first_fits n m s = (and_true (is_number n) true (and_true (is_number n && true) ((is_number m && true) && true) s).0).0
@@ -215,43 +202,47 @@ fed _ sound h = refl
 
 -- ---- the words of a line
 
-abbrev word_ok : Part → Bool
-word_ok (AWord word) = is_unspaced word
+-- no word has a space or an LF in it
+abbrev pub is_bare : List ℕ → Bool
+is_bare word = is_unspaced word && lacks 10 word
+
+abbrev pub word_ok : Part → Bool
+word_ok (AWord word) = is_bare word
 word_ok (AField f) = true
 
-what_unspaced : (what : What) → is_unspaced (what_text what) ≡ true
+what_ok : (what : What) → is_bare (what_text what) ≡ true
 unfolding what_text
-what_unspaced whats.Hook = refl
-what_unspaced _ = refl
+what_ok whats.Hook = refl
+what_ok _ = refl
 
-kind_unspaced : (kind : RowKind) → is_unspaced (row_kind_text kind) ≡ true
+kind_ok : (kind : RowKind) → is_bare (row_kind_text kind) ≡ true
 unfolding row_kind_text
-kind_unspaced row_kinds.Root = refl
-kind_unspaced _ = refl
+kind_ok row_kinds.Root = refl
+kind_ok _ = refl
 
-refusal_unspaced : (why : Refusal) → list_all word_ok (refusal_parts why) ≡ true
-refusal_unspaced Spent = refl
-refusal_unspaced _ = refl
+refusal_ok : (why : Refusal) → list_all word_ok (refusal_parts why) ≡ true
+refusal_ok Spent = refl
+refusal_ok _ = refl
 
-reply_unspaced : (reply : Reply) → list_all word_ok (reply_parts reply) ≡ true
-reply_unspaced (replies.No why) = refusal_unspaced why
-reply_unspaced _ = refl
+reply_ok : (reply : Reply) → list_all word_ok (reply_parts reply) ≡ true
+reply_ok (replies.No why) = refusal_ok why
+reply_ok _ = refl
 
-event_unspaced : (e : Event) → list_all word_ok (event_parts e) ≡ true
-event_unspaced (events.Replied reply) = reply_unspaced reply
-event_unspaced (events.Fired what x routine) = rw (what_unspaced what) refl
-event_unspaced _ = refl
+event_ok : (e : Event) → list_all word_ok (event_parts e) ≡ true
+event_ok (events.Replied reply) = reply_ok reply
+event_ok (events.Fired what x routine) = rw (what_ok what) refl
+event_ok _ = refl
 
-ask_unspaced : (q : Ask) → list_all word_ok (ask_parts q) ≡ true
-ask_unspaced (asks.Routine m) = rw (what_unspaced m.what) refl
-ask_unspaced _ = refl
+ask_ok : (q : Ask) → list_all word_ok (ask_parts q) ≡ true
+ask_ok (asks.Routine m) = rw (what_ok m.what) refl
+ask_ok _ = refl
 
-line_unspaced : (l : Line) → list_all word_ok (parts_of l) ≡ true
-line_unspaced (Row r) = rw (kind_unspaced r.kind) refl
-line_unspaced (Tells e) = event_unspaced e
-line_unspaced (Asks q) = ask_unspaced q
-line_unspaced (Ends q) = ask_unspaced q
-line_unspaced (Rows n) = refl
+pub words_ok : (l : Line) → list_all word_ok (parts_of l) ≡ true
+words_ok (Row r) = rw (kind_ok r.kind) refl
+words_ok (Tells e) = event_ok e
+words_ok (Asks q) = ask_ok q
+words_ok (Ends q) = ask_ok q
+words_ok (Rows n) = refl
 
 field_is_word : (f : Field) → is_sound_part (AField f) ≡ true → is_unspaced (field_text f) ≡ true
 field_is_word (AnOwner o) h = owner_field.is_word o (and_true (is_sound_owner o) true h).0
@@ -262,7 +253,7 @@ field_is_word (SomeBytes bytes) h = octets_field.is_word bytes h
 
 all_words : (ps : List Part) → all_fit ps ≡ true → list_all word_ok ps ≡ true → list_all is_unspaced (words_of ps) ≡ true
 all_words [] h w = refl
-all_words (AWord word ∷ ps) h w = let parts = and_true (is_unspaced word) (list_all word_ok ps) w in rw (parts.0, all_words ps h parts.1) refl
+all_words (AWord word ∷ ps) h w = let parts = and_true (is_bare word) (list_all word_ok ps) w in rw ((and_true (is_unspaced word) (lacks 10 word) parts.0).0, all_words ps h parts.1) refl
 all_words (AField f ∷ ps) h w = let parts = and_true (is_sound_part (AField f)) (all_fit ps) h in rw (field_is_word f parts.0, all_words ps parts.1 w) refl
 
 words_of_line : (ps : List Part) → list_all is_unspaced (words_of ps) ≡ true → ([] ≡ ps → ⊥) → words (joined (words_of ps)) ≡ words_of ps
@@ -278,5 +269,5 @@ some_parts _ e = absurd cc
 pub line_again : (l : Line) → is_sound_line l ≡ true → is_line l ≡ true → line_of (line_text l) ≡ Some (plain l)
 unfolding line_of
 line_again l sound h =
-    rw (words_of_line (parts_of l) (all_words (parts_of l) sound (line_unspaced l)) (some_parts l))
+    rw (words_of_line (parts_of l) (all_words (parts_of l) sound (words_ok l)) (some_parts l))
     (read_again line_form (parts_of l) (plain l) sound (fed l sound h))

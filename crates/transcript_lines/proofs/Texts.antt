@@ -11,9 +11,6 @@ use Rattle.hex.specs.Hex.{lower_digits, encode_with, encode_lower}
 use Rattle.tree_specs.specs.declared.object.Owner.{Owner}
 use Rattle.tree_specs.specs.declared.object.Owner.TheVariants.{Root, Of}
 use Rattle.tree_specs.specs.declared.moment.What.{What}
-use Rattle.tree_specs.specs.declared.moment.What.TheVariants as whats
-use Rattle.tree_specs.specs.declared.report.RowKind.{RowKind}
-use Rattle.tree_specs.specs.declared.report.RowKind.TheVariants as row_kinds
 use Rattle.tree_specs.specs.declared.report.ReportRow.{ReportRow}
 use Rattle.tree_specs.specs.declared.reply.Refusal.{Refusal}
 use Rattle.tree_specs.specs.declared.reply.Refusal.TheVariants.{Spent}
@@ -32,10 +29,11 @@ use Rattle.tree_specs.specs.Words.Ranges.{is_number, is_in, is_sound_owner}
 use Rattle.tree_specs.specs.Texts.Text.{newline, field_text, numbers_text, refusal_numbers, row_kind_text, row_text, reply_text, what_text, event_text, ask_text, answered_text, end_text}
 use Rattle.text_forms.proofs.Bools.{and_true}
 use Rattle.text_forms.proofs.Numerals.{decimal_digits}
-use Rattle.text_forms.proofs.Words.{lacks, joined}
-use Rattle.transcript_lines.specs.Lines.{Line, Part, part_text, words_of, is_sound_part, parts_of, line_text, is_sound_line, is_line, refusal_parts, reply_parts, event_parts, ask_parts}
+use Rattle.text_forms.proofs.Words.{lacks, is_unspaced, joined}
+use Rattle.transcript_lines.specs.Lines.{Line, Part, part_text, words_of, is_sound_part, parts_of, line_text, is_sound_line, is_line, refusal_parts, reply_parts, ask_parts}
 use Rattle.transcript_lines.specs.Lines.Line.{Row, Rows, Tells, Asks, Ends}
 use Rattle.transcript_lines.specs.Lines.Part.{AWord, AField}
+use Rattle.transcript_lines.proofs.Spelling.{word_ok, words_ok}
 
 -- ---- words with a space before each
 
@@ -192,55 +190,17 @@ field_plain (ANumeral kind n) h = number_plain n (in_number kind n (and_true (is
 field_plain (AName name) h = name_plain name (and_true (list_all is_graphic name) _ (and_true (list_all is_graphic name && leb 1 (length name)) _ (and_true (is_name name) true h).0).0).0
 field_plain (SomeBytes bytes) h = hex_plain bytes
 
-abbrev plain_word : Part → Bool
-plain_word (AWord word) = has_no_lf word
-plain_word (AField f) = true
-
-what_plain : (what : What) → has_no_lf (what_text what) ≡ true
-unfolding what_text
-what_plain whats.Hook = refl
-what_plain _ = refl
-
-kind_plain : (kind : RowKind) → has_no_lf (row_kind_text kind) ≡ true
-unfolding row_kind_text
-kind_plain row_kinds.Root = refl
-kind_plain _ = refl
-
-refusal_plain : (why : Refusal) → list_all plain_word (refusal_parts why) ≡ true
-refusal_plain Spent = refl
-refusal_plain _ = refl
-
-reply_plain : (reply : Reply) → list_all plain_word (reply_parts reply) ≡ true
-reply_plain (replies.No why) = refusal_plain why
-reply_plain _ = refl
-
-event_plain : (e : Event) → list_all plain_word (event_parts e) ≡ true
-event_plain (events.Replied reply) = reply_plain reply
-event_plain (events.Fired what x routine) = rw (what_plain what) refl
-event_plain _ = refl
-
-ask_plain : (q : Ask) → list_all plain_word (ask_parts q) ≡ true
-ask_plain (asks.Routine m) = rw (what_plain m.what) refl
-ask_plain _ = refl
-
-words_plain : (l : Line) → list_all plain_word (parts_of l) ≡ true
-words_plain (Row r) = rw (kind_plain r.kind) refl
-words_plain (Tells e) = event_plain e
-words_plain (Asks q) = ask_plain q
-words_plain (Ends q) = ask_plain q
-words_plain (Rows n) = refl
-
-part_plain : (p : Part) → is_sound_part p ≡ true → plain_word p ≡ true → has_no_lf (part_text p) ≡ true
-part_plain (AWord word) h w = w
+part_plain : (p : Part) → is_sound_part p ≡ true → word_ok p ≡ true → has_no_lf (part_text p) ≡ true
+part_plain (AWord word) h w = (and_true (is_unspaced word) (has_no_lf word) w).1
 part_plain (AField f) h w = field_plain f h
 
-parts_plain : (ps : List Part) → list_all is_sound_part ps ≡ true → list_all plain_word ps ≡ true → has_no_lf (joined (words_of ps)) ≡ true
+parts_plain : (ps : List Part) → list_all is_sound_part ps ≡ true → list_all word_ok ps ≡ true → has_no_lf (joined (words_of ps)) ≡ true
 parts_plain [] h w = refl
-parts_plain (p ∷ []) h w = part_plain p (and_true (is_sound_part p) true h).0 (and_true (plain_word p) true w).0
+parts_plain (p ∷ []) h w = part_plain p (and_true (is_sound_part p) true h).0 (and_true (word_ok p) true w).0
 parts_plain (p ∷ q ∷ ps) h w =
     let fit = and_true (is_sound_part p) (list_all is_sound_part (q ∷ ps)) h in
-    let word = and_true (plain_word p) (list_all plain_word (q ∷ ps)) w in
+    let word = and_true (word_ok p) (list_all word_ok (q ∷ ps)) w in
     plain_append (part_text p) (32 ∷ joined (words_of (q ∷ ps))) (part_plain p fit.0 word.0) (parts_plain (q ∷ ps) fit.1 word.1)
 
 pub line_plain : (l : Line) → is_sound_line l ≡ true → has_no_lf (line_text l) ≡ true
-line_plain l h = parts_plain (parts_of l) h (words_plain l)
+line_plain l h = parts_plain (parts_of l) h (words_ok l)

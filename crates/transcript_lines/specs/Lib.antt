@@ -1,1 +1,5 @@
 pub mod Lines
+pub mod Sayings
+pub mod Readings
+pub mod Heads
+pub mod Digits

@@ -146,9 +146,17 @@ refusal_form =
     (IfWord (codes "14") (a_number (λ n. refused (TooBig n)))
     (IfWord (codes "15") (refused Nested) Fails))))))))))))))
 
+-- the second of two numbers
+abbrev pub pair_end : ℕ → Form
+pair_end n = a_number (λ m. replied (replies.Pair n m))
+
+-- nothing behind a number, or a second one
+abbrev pub number_end : ℕ → Form
+number_end n = MayEnd (Tells (events.Replied (replies.Number n))) (pair_end n)
+
 -- one number, or two
 abbrev pub numbers_form : Form
-numbers_form = a_number (λ n. MayEnd (Tells (events.Replied (replies.Number n))) (a_number (λ m. replied (replies.Pair n m))))
+numbers_form = a_number number_end
 
 abbrev pub reply_form : Form
 reply_form =

@@ -1,6 +1,6 @@
-//! `tvhost replay` reads a schedule from standard input and writes its transcript to standard output, `tvhost serve PATH
-//! ANSWERS` serves lines at a Unix socket and writes the schedule that it served, and `tvhost load NUMBER COUNT` writes five
-//! lines on a schedule that is made from a number.
+//! `tvhost replay` reads a schedule from standard input and writes its transcript to standard output, `tvhost audit` reads a
+//! transcript and says whether its story is orderly, `tvhost serve PATH ANSWERS` serves lines at a Unix socket and writes the
+//! schedule that it served, and `tvhost load NUMBER COUNT` writes five lines on a schedule that is made from a number.
 #![tactic(auto)]
 
 use host_app::{Status, host_main};

@@ -22,6 +22,10 @@ pub returns-clause-one_more : goal.returns-clause-one_more
 unfolding clap_on_literals
 returns-clause-one_more c = refl
 
+pub returns-clause-audit_of_a_file : goal.returns-clause-audit_of_a_file
+unfolding clap_on_literals
+returns-clause-audit_of_a_file c = refl
+
 pub returns-clause-no_count : goal.returns-clause-no_count
 unfolding clap_on_literals
 returns-clause-no_count c = refl

@@ -6,6 +6,10 @@ pub returns-clause-replay : goal.returns-clause-replay
 unfolding clap_on_literals
 returns-clause-replay c = refl
 
+pub returns-clause-audit : goal.returns-clause-audit
+unfolding clap_on_literals
+returns-clause-audit c = refl
+
 pub returns-clause-load : goal.returns-clause-load
 unfolding clap_on_literals
 returns-clause-load c = refl

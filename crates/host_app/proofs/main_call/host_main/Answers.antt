@@ -1,18 +1,22 @@
 use Rattle.std.proofs.Common.{rules, arith, ℕ, ◌≡◌, ◌∙◌, ap, subst, sym, Some, None, Ok}
-use Rattle.command_words.specs.CommandLine.Asked.{Load, Replay, Serve}
+use Rattle.command_words.specs.CommandLine.Asked.{Audit, Load, Replay, Serve}
 use Rattle.command_words.specs.declared.command.Command.{Command}
+use Rattle.audit_rules.specs.Flaws.{flaw}
 use Rattle.serving.specs.Stations.{ends}
 use Rattle.host_app.specs.Mains.{names, Loads, Says}
 use Rattle.host_app.specs.Serves.{Serves}
 use Rattle.host_app.specs.Statuses.{status_text}
-use Rattle.host_app.proofs.MainLaws.{replay-complete, replay-front, kept-front, load-none, load-not-serve, loads-by, loads-same, memory-complete, not-load, not-named, not-serve, says-by, serves-by, serves-none, serves-same}
+use Rattle.host_app.proofs.MainLaws.{Accepted, audit-none, audit-not-load, audit-not-serve, not-audit, replay-complete, replay-front, kept-front, load-none, load-not-serve, loads-by, loads-same, memory-complete, not-load, not-named, not-serve, says-by, serves-by, serves-none, serves-same}
 use Rattle.host_app.proofs.main_call.host_main.Goals as goal
-use Rattle.host_app.proofs.main_call.host_main.Goals.{in-Ok-Replay, in-Ok-Serve, in-Ok-Load, in-Err-Usage, in-Err-Memory}
+use Rattle.host_app.proofs.main_call.host_main.Goals.{in-Ok-Replay, in-Ok-Audit, in-Ok-Serve, in-Ok-Load, in-Err-Usage, in-Err-Memory}
 
 pub returns-clause-memory_front : goal.returns-clause-memory_front
 returns-clause-memory_front g c = λ named memory. elim c.match-read_words.branch [
   | in-Ok-Replay w ↦ rw w.out-is (replay-front (g.S.Source.left c.args.input.now) (g.S.Source.left w.replay.new.input) (g.K.Sink.held c.args.out.now) (g.K.Sink.held w.replay.new.out) w.replay.result c.match-read_words.status
       (w.status-is ∙ w.from-status.ensures) w.replay.ensures.replays memory)
+  | in-Ok-Audit w ↦
+      let is : names c.args.words.now ≡ Some Audit = search rules in
+      absurd (not-audit (sym named ∙ is))
   | in-Ok-Serve w ↦
       let is : names c.args.words.now ≡ Some (Serve w.in-Ok-Serve.path.now w.in-Ok-Serve.answers) = search rules in
       absurd (not-serve w.in-Ok-Serve.path.now w.in-Ok-Serve.answers (sym named ∙ is))
@@ -28,6 +32,9 @@ returns-clause-loads g c = λ number count named. elim c.match-read_words.branch
   | in-Ok-Replay w ↦
       let is : names c.args.words.now ≡ Some Replay = search rules in
       absurd (not-load number count (sym is ∙ named))
+  | in-Ok-Audit w ↦
+      let is : names c.args.words.now ≡ Some Audit = search rules in
+      absurd (audit-not-load number count (sym is ∙ named))
   | in-Ok-Serve w ↦
       let is : names c.args.words.now ≡ Some (Serve w.in-Ok-Serve.path.now w.in-Ok-Serve.answers) = search rules in
       absurd (load-not-serve w.in-Ok-Serve.path.now w.in-Ok-Serve.answers number count (sym named ∙ is))
@@ -47,6 +54,9 @@ returns-clause-serves g c = λ path answers named. elim c.match-read_words.branc
   | in-Ok-Replay w ↦
       let is : names c.args.words.now ≡ Some Replay = search rules in
       absurd (not-serve path answers (sym is ∙ named))
+  | in-Ok-Audit w ↦
+      let is : names c.args.words.now ≡ Some Audit = search rules in
+      absurd (audit-not-serve path answers (sym is ∙ named))
   | in-Ok-Serve w ↦
       let is : names c.args.words.now ≡ Some (Serve w.in-Ok-Serve.path.now w.in-Ok-Serve.answers) = search rules in
       let before = ends (g.L.Link.told c.args.link.now) (g.C.Clock.told c.args.clock.now) (g.R.Routines.told c.args.routines.now) (g.K.Sink.held c.args.out.now) in
@@ -77,6 +87,9 @@ returns-clause-complete g c = λ named.
     elim c.match-read_words.branch [
       | in-Ok-Replay w ↦ rw (w.input-is, w.out-is) (replay-complete left (reads c.args.input.now) (reads w.replay.new.input) (writes c.args.out.now) (writes w.replay.new.out) w.replay.result c.match-read_words.status
           (w.status-is ∙ w.from-status.ensures) w.replay.ensures.complete)
+      | in-Ok-Audit w ↦
+          let is : names c.args.words.now ≡ Some Audit = search rules in
+          absurd (not-audit (sym named ∙ is))
       | in-Ok-Serve w ↦
           let is : names c.args.words.now ≡ Some (Serve w.in-Ok-Serve.path.now w.in-Ok-Serve.answers) = search rules in
           absurd (not-serve w.in-Ok-Serve.path.now w.in-Ok-Serve.answers (sym named ∙ is))
@@ -86,7 +99,7 @@ returns-clause-complete g c = λ named.
       | in-Err-Usage w ↦
           let none : names c.args.words.now ≡ None = search rules in
           absurd (not-named Replay (names c.args.words.now) none named)
-      | in-Err-Memory w ↦ memory-complete left (reads c.args.input.now) (reads c.match-read_words.input) (writes c.args.out.now) (writes c.match-read_words.out) c.match-read_words.status w.status-is
+      | in-Err-Memory w ↦ memory-complete Accepted left (reads c.args.input.now) (reads c.match-read_words.input) (writes c.args.out.now) (writes c.match-read_words.out) c.match-read_words.status w.status-is
     ]
 
 pub returns-clause-said : goal.returns-clause-said
@@ -100,8 +113,50 @@ returns-clause-said g c = λ other.
     says-by (held c.match-read_words.err) (held c.say.new.err) (room c.match-read_words.err) (room c.say.new.err) (faults c.match-read_words.err) (faults c.say.new.err) c.say.result text e.bytes e.cause e.room in
     elim c.match-read_words.branch [
       | in-Ok-Replay w ↦ rw w.err-is at said
+      | in-Ok-Audit w ↦ rw w.err-is at said
       | in-Ok-Serve w ↦ rw w.err-is at said
       | in-Ok-Load w ↦ rw w.err-is at said
       | in-Err-Usage w ↦ absurd (other w.status-is)
       | in-Err-Memory w ↦ rw w.err-is at said
+    ]
+
+pub returns-clause-audit_memory : goal.returns-clause-audit_memory
+returns-clause-audit_memory g c = λ named memory.
+    let left = g.S.Source.left c.args.input.now in
+    let held = g.K.Sink.held in
+    elim c.match-read_words.branch [
+      | in-Ok-Replay w ↦
+          let is : names c.args.words.now ≡ Some Replay = search rules in
+          absurd (not-audit (sym is ∙ named))
+      | in-Ok-Audit w ↦ rw w.out-is (w.audit_transcript-status.ensures.memory_front (sym w.status-is ∙ memory))
+      | in-Ok-Serve w ↦
+          let is : names c.args.words.now ≡ Some (Serve w.in-Ok-Serve.path.now w.in-Ok-Serve.answers) = search rules in
+          absurd (audit-not-serve w.in-Ok-Serve.path.now w.in-Ok-Serve.answers (sym named ∙ is))
+      | in-Ok-Load w ↦
+          let is : names c.args.words.now ≡ Some (Load w.in-Ok-Load.number w.in-Ok-Load.count) = search rules in
+          absurd (audit-not-load w.in-Ok-Load.number w.in-Ok-Load.count (sym named ∙ is))
+      | in-Err-Usage w ↦ audit-none left (held c.args.out.now) (held c.match-read_words.out) (ap held w.out-is)
+      | in-Err-Memory w ↦ audit-none left (held c.args.out.now) (held c.match-read_words.out) (ap held w.out-is)
+    ]
+
+pub returns-clause-audit_complete : goal.returns-clause-audit_complete
+returns-clause-audit_complete g c = λ named.
+    let left = g.S.Source.left c.args.input.now in
+    let reads = g.S.Source.faults in
+    let writes = g.K.Sink.faults in
+    elim c.match-read_words.branch [
+      | in-Ok-Replay w ↦
+          let is : names c.args.words.now ≡ Some Replay = search rules in
+          absurd (not-audit (sym is ∙ named))
+      | in-Ok-Audit w ↦ rw (w.input-is, w.out-is, w.status-is) w.audit_transcript-status.ensures.complete
+      | in-Ok-Serve w ↦
+          let is : names c.args.words.now ≡ Some (Serve w.in-Ok-Serve.path.now w.in-Ok-Serve.answers) = search rules in
+          absurd (audit-not-serve w.in-Ok-Serve.path.now w.in-Ok-Serve.answers (sym named ∙ is))
+      | in-Ok-Load w ↦
+          let is : names c.args.words.now ≡ Some (Load w.in-Ok-Load.number w.in-Ok-Load.count) = search rules in
+          absurd (audit-not-load w.in-Ok-Load.number w.in-Ok-Load.count (sym named ∙ is))
+      | in-Err-Usage w ↦
+          let none : names c.args.words.now ≡ None = search rules in
+          absurd (not-named Audit (names c.args.words.now) none named)
+      | in-Err-Memory w ↦ memory-complete (λ bytes. flaw bytes ≡ None) left (reads c.args.input.now) (reads c.match-read_words.input) (writes c.args.out.now) (writes c.match-read_words.out) c.match-read_words.status w.status-is
     ]

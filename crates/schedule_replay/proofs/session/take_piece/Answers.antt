@@ -1,15 +1,30 @@
-use Rattle.std.proofs.Common.{[]}
+use Rattle.std.proofs.Common.{arith}
 use Rattle.std.proofs.lemmas.Result.{err_from_is_err_and}
 use Rattle.line_pieces.specs.States.{reading_of}
-use Rattle.schedule_replay.proofs.SessionLaws.{passes-cut, no-put}
+use Rattle.schedule_replay.proofs.SessionLaws.{some-none, some-more, some-error}
 use Rattle.schedule_replay.proofs.session.take_piece.Goals as goal
 
-pub returns-in_err-put_text-clause-passed : goal.returns-in_err-put_text-clause-passed
-returns-in_err-put_text-clause-passed g c =
-    let p = err_from_is_err_and c.from_residual.result c.from_residual.ensures.1 in
-    rw (p.1, p.2) (passes-cut (reading_of c.args.reader.now) (reading_of c.feed-taken.new.self) _ c.args.piece.now _ _ c.feed-taken.result c.in_err-put_text.field-0.0 c.in_err-put_text.ensures.bytes c.feed-taken.ensures.taken)
+pub runs-init : goal.runs-init
+runs-init g c = record {
+  ready = c.requires.ready;
+  empty = c.requires.empty;
+  passed = some-none (reading_of c.args.reader.now) c.args.piece.now (g.K.Sink.held c.args.out.now);
+  progress = omega arith;
+  writes = omega arith;
+}
 
-pub returns-in_err-taken-clause-cause : goal.returns-in_err-taken-clause-cause
-returns-in_err-taken-clause-cause g c =
-    let p = err_from_is_err_and c.from_residual-in_err-taken.result c.from_residual-in_err-taken.ensures.1 in
-    rw (p.1, p.2) (no-put c.in_err-taken.field-0.0 _ _ _ _ (c.in_err-taken.ensures.taken []) c.in_ok-put_text.ensures.cause.later)
+pub runs-preserved : goal.runs-preserved
+runs-preserved g c = record {
+  ready = c.in_ok-rest.ensures.ready;
+  empty = c.in_ok-rest.ensures.empty;
+  passed = some-more (reading_of c.args.reader.now) (reading_of c.runs.reader) (reading_of c.take_run.new.reader) c.args.piece.now c.runs.rest.now c.in_ok-rest.rest.now _ _ _
+      c.runs.invariant.passed c.in_ok-rest.ensures.passed;
+  progress = omega (arith, c.in_ok-rest.ensures.progress, c.runs.invariant.progress);
+  writes = omega (arith, c.in_ok-rest.ensures.cause.later, c.runs.invariant.writes);
+}
+
+pub returns-in_err-rest-clause-passed : goal.returns-in_err-rest-clause-passed
+returns-in_err-rest-clause-passed g c =
+    let p = err_from_is_err_and c.from_residual.result c.from_residual.ensures.1 in
+    rw (p.1, p.2) (some-error (reading_of c.args.reader.now) (reading_of c.runs.reader) (reading_of c.take_run.new.reader) c.args.piece.now c.runs.rest.now _ _ _ c.in_err-rest.field-0.0
+    c.runs.invariant.passed c.in_err-rest.ensures.passed)

@@ -1,38 +1,26 @@
-use Rattle.std.proofs.Common.{◌≤◌, ◌+◌, length, take, drop, List, ℕ, arith, sym, subst}
-use Rattle.std.proofs.lemmas.List.{take_rest, length-drop, length-take-le}
+use Rattle.std.proofs.Common.{Err, arith}
 use Rattle.std.proofs.lemmas.Result.{err_from_is_err_and}
-use Rattle.line_pieces.specs.Readings.{room_left}
 use Rattle.line_pieces.specs.States.{reading_of}
-use Rattle.line_pieces.proofs.Feeding.{Fed, fed-none, fed-line, fed-error, fed-last}
+use Rattle.line_pieces.proofs.Feeding.{fed-last, fed-more, fed-none}
 use Rattle.line_pieces.proofs.reader.LineReader.feed.Goals as goal
 
-pub lines-init : goal.lines-init
-lines-init g c = record {
+pub runs-init : goal.runs-init
+runs-init g c = record {
   ready = c.requires;
   fed = fed-none g.T.TakesLines.comes g.T.TakesLines.stops (reading_of c.args.self.now) c.args.piece.now;
   progress = omega arith;
 }
 
-pub returns-in_err-take_rest-clause-taken : goal.returns-in_err-take_rest-clause-taken
-returns-in_err-take_rest-clause-taken g c =
+pub runs-preserved : goal.runs-preserved
+runs-preserved g c = record {
+  ready = c.in_ok-rest.ensures.ready;
+  fed = fed-more g.T.TakesLines.comes g.T.TakesLines.stops (reading_of c.args.self.now) c.args.piece.now (reading_of c.runs.self) c.runs.rest.now (reading_of c.feed_until_full.new.self) c.in_ok-rest.rest.now
+      c.runs.invariant.fed c.in_ok-rest.ensures.taken;
+  progress = omega (arith, c.in_ok-rest.ensures.progress, c.runs.invariant.progress);
+}
+
+pub returns-in_err-rest-clause-taken : goal.returns-in_err-rest-clause-taken
+returns-in_err-rest-clause-taken g c =
     let p = err_from_is_err_and c.from_residual.result c.from_residual.ensures.1 in
-    rw (p.1, p.2) (fed-error g.T.TakesLines.comes g.T.TakesLines.stops (reading_of c.args.self.now) c.args.piece.now (reading_of c.lines.self) c.lines.rest.now (take c.in-Some.end c.lines.rest.now) (drop (c.in-Some.end + 1) c.lines.rest.now)
-    (reading_of c.take_rest.new.self) c.in_err-take_rest.field-0.0 c.lines.invariant.fed c.in-Some.ensures.cut c.in_err-take_rest.ensures.taken)
-
-pub lines-preserved : goal.lines-preserved
-lines-preserved g c =
-    let n = c.in-Some.end + 1 in
-    let rest = c.lines.rest.now in
-    let same = sym (take_rest rest n) in
-    record {
-      ready = c.in_ok-take_rest.ensures.ready;
-      fed = subst (λ (l : List ℕ). Fed g.T.TakesLines.comes g.T.TakesLines.stops (reading_of c.args.self.now) c.args.piece.now (reading_of c.take_rest.new.self) l) same
-          (fed-line g.T.TakesLines.comes g.T.TakesLines.stops (reading_of c.args.self.now) c.args.piece.now (reading_of c.lines.self) rest (take c.in-Some.end rest) (drop n rest) (reading_of c.take_rest.new.self)
-          c.lines.invariant.fed c.in-Some.ensures.cut c.in_ok-take_rest.ensures.taken);
-      progress = subst (λ (l : List ℕ). room_left (reading_of c.take_rest.new.self) + length c.args.piece.now ≤ room_left (reading_of c.args.self.now) + length l) same
-          (omega (arith, length-drop n rest, length-take-le c.in-Some.end rest, c.in-Some.ensures.within, c.in_ok-take_rest.ensures.progress, c.lines.invariant.progress));
-    }
-
-pub returns-clause-taken : goal.returns-clause-taken
-returns-clause-taken g c =
-    fed-last g.T.TakesLines.comes g.T.TakesLines.stops (reading_of c.args.self.now) c.args.piece.now (reading_of c.lines.self) c.lines.rest.now _ c.lengthen.result c.lines.invariant.fed c.lengthen.ensures.taken
+    rw (p.1, p.2) (fed-last g.T.TakesLines.comes g.T.TakesLines.stops (reading_of c.args.self.now) c.args.piece.now (reading_of c.runs.self) c.runs.rest.now (reading_of c.feed_until_full.new.self) (Err c.in_err-rest.field-0.0)
+    c.runs.invariant.fed c.in_err-rest.ensures.taken)

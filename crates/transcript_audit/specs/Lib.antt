@@ -1,0 +1,5 @@
+pub mod Kept
+pub mod Courses
+pub mod Audits
+pub mod Outcomes
+pub mod Passes
