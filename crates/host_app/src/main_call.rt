@@ -94,9 +94,11 @@ pub fn host_main<S: Source, K: Sink, E: Sink, L: Link, C: Clock, R: Routines>(
         (Rose (S.faults input.old) (S.faults input.new) → ⊥) → (Rose (K.faults out.old) (K.faults out.new) → ⊥) → (result ≡ Status.Done) ⊎ (result ≡ Status.NoMemory)) }
 
     // Of the words `serve PATH ANSWERS`: so many answers were given to the service, over this path, and are on record. The
-    // link, the clock and the routines were asked what its story over them prescribes, and the record is a schedule of
-    // which no line is refused and that has these inputs, so its replay writes the transcript of this very run. After a
-    // fault, and when memory runs out, it is so as far as it came. Nothing is read.
+    // link, the clock and the routines were asked what its story over them prescribes. Where no answer names more than
+    // 20,164 ready descriptors, the record is a schedule of which no line is refused and that has these inputs, so its
+    // replay writes the transcript of this very run. After a fault, and when memory runs out, so many answers at most
+    // were given and are on record, with a part of one more line at most, and a question that was put after them is the
+    // one with which the story over them ends. Nothing is read.
     ensures serves { (path : List ℕ) (answers : ℕ) → names words.now ≡ Some (Serve path answers) → Serves path answers result
         (ends (L.told link.old) (C.told clock.old) (R.told routines.old) (K.held out.old))
         (ends (L.told link.new) (C.told clock.new) (R.told routines.new) (K.held out.new)) }

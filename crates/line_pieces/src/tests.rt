@@ -88,7 +88,7 @@ fn what_is_left_of_a_piece_comes_back_where_the_taker_is_full(rt: HostRuntime) -
     let mut reader = LineReader::new(rt.alloc(), taker);
     let rest = reader.feed_until_full(b"a\nb\nc\nd").ok();
     assert_eq!(rt; rest, Some(b"c\nd".as_slice()));
-    assert_eq!(rt; reader.taker.text.as_slice(), b"a|b|");
+    assert_eq!(rt; reader.taker.text.as_slice(), b"a|b|".as_slice());
     Ok(())
 }
 

@@ -71,18 +71,18 @@ put-begins : (e : PutError) (text : List ℕ) (found : Replayed) → BeginsText 
 put-begins put_errors.Write text found h = h
 put-begins put_errors.Memory text found h = h
 
-abbrev FailsBy : Stop → Stop → Type 0
-FailsBy e f = (let r : Result (Unit {0}) Stop = Err e in r ≡ Err f)
+abbrev FailsBy : Type 0 → Stop → Stop → Type 0
+FailsBy A e f = (let r : Result A Stop = Err e in r ≡ Err f)
 
 -- no line makes a put fail
-pub no-put : (e : Stop) (text : List ℕ) (found : Replayed) (before now : ℕ) → StopsWith e text found → before ≤ now → Counts before now (FailsBy e errors.Write)
+pub no-put : {A : Type 0} (e : Stop) (text : List ℕ) (found : Replayed) (before now : ℕ) → StopsWith e text found → before ≤ now → Counts before now (FailsBy A e errors.Write)
 no-put errors.Write text found before now h le = absurd h
 no-put errors.Read text found before now h le = absurd h
 no-put (errors.Refused line reason) text found before now h le = record { later = le; counted = λ e. absurd cc }
 no-put errors.Memory text found before now h le = record { later = le; counted = λ e. absurd cc }
 
 -- nor a read, and no put does
-pub no-read : (e : Stop) (text : List ℕ) (found : Replayed) (before now : ℕ) → StopsPut e text found → before ≤ now → Counts before now (FailsBy e errors.Read)
+pub no-read : (e : Stop) (text : List ℕ) (found : Replayed) (before now : ℕ) → StopsPut e text found → before ≤ now → Counts before now (FailsBy (Unit {0}) e errors.Read)
 no-read errors.Read text found before now h le = absurd h
 no-read errors.Write text found before now h le = record { later = le; counted = λ e. absurd cc }
 no-read (errors.Refused line reason) text found before now h le = record { later = le; counted = λ e. absurd cc }

@@ -27,7 +27,7 @@ use Rattle.service_rules.specs.Watching.{Shown}
 use Rattle.service_records.specs.Records.{AllFit, has_ranges, record_header}
 use Rattle.serving.specs.Exchanges.{exchanges_in, link_answer, clock_answer, routine_answer, link_part, clock_part, routine_part}
 use Rattle.serving.specs.Machines.{Asks, Course, SameCourse, Takes, TellsNext, line_course, question_shown}
-use Rattle.serving.specs.Serving.{Scene, Serves, Shows, IsServed}
+use Rattle.serving.specs.Serving.{Scene, Serves, Shows, ShowsOver, IsServed}
 use Rattle.serving.proofs.FittingLaws.{answer_fits, event_fits, same_fits}
 
 pub flat-both : {A B : Type 0} (f : A → List B) (xs ys : List A) → flat_map f (xs ++ ys) ≡ flat_map f xs ++ flat_map f ys
@@ -46,11 +46,21 @@ pub answer_first : (q : Ask) (wanted : List Want) (i : Input) (story : Option (L
 answer_first q wanted i None is = refl
 answer_first q wanted i (Some shown) is = refl
 
+-- what is shown over some answers, and then over more
+pub shows_then : (given more : List Input) (first next : List Shown) (a b c : Course) → ShowsOver given first a b → ShowsOver more next b c → ShowsOver (given ++ more) (first ++ next) a c
+shows_then given more first next a b c x y = λ is.
+    ap (λ (js : List Input). a.story js) (append_assoc given more is)
+    ∙ x (more ++ is)
+    ∙ ap (with_front first) (y is)
+    ∙ front-front first next (c.story is)
+
 -- ---- events
 
 pub shows_nothing : (course : Course) (told : Option (List LinkCall)) → Shows course course told told
 shows_nothing course told = record {
   done = [];
+  shown = [];
+  story = λ is. sym (front-none (course.story is));
   follows = λ is. sym (front-none (exchanges_in (course.story is) is));
   fits = λ is fit. fit;
   link = tells_same told;
@@ -66,6 +76,8 @@ closing_tells_no_time e = (refl, refl)
 pub shows_more : (a b c : Course) (k l m : Option (List LinkCall)) (e : Event) → Shows a b k l → TellsNext e b c → Tells l m (flat_map link_part (closing e)) → Shows a c k m
 shows_more a b c k l m e s n t = record {
   done = s.done ++ closing e;
+  shown = s.shown ++ AnEvent e ∷ [];
+  story = shows_then [] [] s.shown (AnEvent e ∷ []) a b c s.story n.story;
   follows = λ is.
       s.follows is
       ∙ ap (λ (o : Option (List Shown)). with_front s.done (exchanges_in o is)) (n.story is)
@@ -81,6 +93,8 @@ shows_more a b c k l m e s n t = record {
 pub shows_same : (a b c : Course) (k l : Option (List LinkCall)) → Shows a b k l → SameCourse b c → Shows a c k l
 shows_same a b c k l s n = record {
   done = s.done;
+  shown = s.shown;
+  story = λ is. s.story is ∙ ap (with_front s.shown) (n.story is);
   follows = λ is. s.follows is ∙ ap (λ (o : Option (List Shown)). with_front s.done (exchanges_in o is)) (n.story is);
   fits = λ is fit. s.fits is (same_fits b c n is fit);
   link = s.link;
@@ -94,7 +108,9 @@ pub serves_nothing : (s : Scene) → Serves 0 s s
 serves_nothing s = record {
   given = [];
   done = [];
+  shown = [];
   many = refl;
+  story = λ is. sym (front-none (s.course.story is));
   follows = λ is. sym (front-none (exchanges_in (s.course.story is) is));
   fits = λ is fit. fit;
   sound = refl;
@@ -108,7 +124,9 @@ pub serves_then : (m n : ℕ) (a b c : Scene) → Serves m a b → Serves n b c 
 serves_then m n a b c x y = record {
   given = x.given ++ y.given;
   done = x.done ++ y.done;
+  shown = x.shown ++ y.shown;
   many = rw (length-append x.given y.given, x.many, y.many) refl;
+  story = shows_then x.given y.given x.shown y.shown a.course b.course c.course x.story y.story;
   follows = λ is.
       ap (λ (js : List Input). exchanges_in (a.course.story js) js) (append_assoc x.given y.given is)
       ∙ x.follows (y.given ++ is)
@@ -127,7 +145,9 @@ pub serves_shown : (before after : Scene) → Shows before.course after.course b
 serves_shown before after s c r o = record {
   given = [];
   done = s.done;
+  shown = s.shown;
   many = refl;
+  story = s.story;
   follows = s.follows;
   fits = s.fits;
   sound = refl;
@@ -145,7 +165,9 @@ pub serves_one : (before after : Scene) (question : Option Ask) (q : Ask) (wante
 serves_one before after question q wanted i asked asks takes suits ranges l c r o = record {
   given = i ∷ [];
   done = Answered q wanted i ∷ [];
+  shown = question_shown q wanted ∷ [];
   many = refl;
+  story = takes.goes_on q asked;
   follows = λ is.
       ap (λ (o : Option (List Shown)). exchanges_in o (i ∷ is)) (takes.goes_on q asked is)
       ∙ answer_first q wanted i (after.course.story is) is;

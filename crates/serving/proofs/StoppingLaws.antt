@@ -22,7 +22,7 @@ use Rattle.serving.specs.Exchanges.{exchanges_in, link_answer, clock_answer, rou
 use Rattle.serving.specs.Serving.{Scene, Serves}
 use Rattle.serving.specs.Stopping.{Begun, begun_link, begun_clock, begun_routines, begun_line, calls_for, Explains, FailsToAnswer, IsNext, IsOpen, Stops}
 use Rattle.serving.specs.Stopping.Begun.{Nothing, FailedWait, Forgotten, Heard}
-use Rattle.serving.proofs.ServingLaws.{flat-both}
+use Rattle.serving.proofs.ServingLaws.{flat-both, shows_then}
 
 -- no answer was given, and this was begun at the question that is open
 stops_at : (b : Begun) (why : Stop) (before after : Scene) → after.course ≡ before.course → IsNext b before.course → Explains b why →
@@ -31,8 +31,10 @@ stops_at : (b : Begun) (why : Stop) (before after : Scene) → after.course ≡ 
 stops_at b why before after same next reason l c r n o = record {
   given = [];
   done = [];
+  shown = [];
   begun = b;
   many = omega arith;
+  story = λ is. ap (λ (f : Course). f.story is) (sym same) ∙ sym (front-none (after.course.story is));
   follows = λ is. ap (λ (f : Course). exchanges_in (f.story is) is) (sym same) ∙ sym (front-none (exchanges_in (after.course.story is) is));
   next = rw same next;
   reason = reason;
@@ -88,8 +90,10 @@ pub stops_later : (why : Stop) (m n most : ℕ) (a b c : Scene) → m + n ≤ mo
 stops_later why m n most a b c few x y = record {
   given = x.given ++ y.given;
   done = x.done ++ y.done;
+  shown = x.shown ++ y.shown;
   begun = y.begun;
   many = rw (length-append x.given y.given, x.many) (omega (arith, few, y.many));
+  story = shows_then x.given y.given x.shown y.shown a.course b.course c.course x.story y.story;
   follows = λ is.
       ap (λ (js : List Input). exchanges_in (a.course.story js) js) (append_assoc x.given y.given is)
       ∙ x.follows (y.given ++ is)

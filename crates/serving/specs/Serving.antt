@@ -39,12 +39,18 @@ pub record Scene : Type 0 where
 abbrev pub scene : Course → Option (List LinkCall) → Option (List ℕ) → Option (List (Moment × Act)) → Option (List ℕ) → Scene
 scene course link clock routines out = record { course = course; link = link; clock = clock; routines = routines; out = out }
 
+-- the story over these answers shows this, and then what is still to come
+abbrev pub ShowsOver : List Input → List Shown → Course → Course → Type 0
+ShowsOver given shown before after = (is : List Input) → before.story (given ++ is) ≡ with_front shown (after.story is)
+
 -- So many answers were given. What the ends were asked is what the story over them prescribes, and they are on record: each
--- has its ranges and fits.
+-- has its ranges and fits. What is still to come is the rest of that story, behind what it has shown.
 pub record Serves (count : ℕ) (before after : Scene) : Type 0 where
   pub given : List Input
   pub done : List Exchange
+  pub shown : List Shown
   pub many : length given ≡ count
+  pub story : ShowsOver given shown before.course after.course
   pub follows : (is : List Input) → exchanges_in (before.course.story (given ++ is)) (given ++ is) ≡ with_front done (exchanges_in (after.course.story is) is)
   pub fits : (is : List Input) → AllFit (line_course after.course) is → AllFit (line_course before.course) (given ++ is)
   pub sound : list_all has_ranges given ≡ true
@@ -56,6 +62,8 @@ pub record Serves (count : ℕ) (before after : Scene) : Type 0 where
 -- events alone were told
 pub record Shows (before after : Course) (told all : Option (List LinkCall)) : Type 0 where
   pub done : List Exchange
+  pub shown : List Shown
+  pub story : ShowsOver [] shown before after
   pub follows : (is : List Input) → exchanges_in (before.story is) is ≡ with_front done (exchanges_in (after.story is) is)
   pub fits : (is : List Input) → AllFit (line_course after) is → AllFit (line_course before) is
   pub link : Tells told all (flat_map link_part done)

@@ -48,8 +48,9 @@ abbrev pub with_course : Course → Ends → Scene
 with_course course e = record { course = course; link = e.link; clock = e.clock; routines = e.routines; out = e.out }
 
 -- So many answers were given to a service from its beginning. The link was told to listen at the path, and link, clock and
--- routines were asked what the service's story over these answers prescribes. What was put is their record, which is a schedule of
--- which no line is refused, unless one names too many ready descriptors: so it replays to this very story, which is orderly.
+-- routines were asked what the service's story over these answers prescribes. What was put is their record. Where no answer names
+-- more than 20,164 ready descriptors, it is a schedule of which no line is refused, with these answers as its inputs: so it replays
+-- to this very story, which is orderly.
 pub record ServesLines (path : List ℕ) (answers : ℕ) (before after : Ends) : Type 0 where
   pub given : List Input
   pub many : length given ≡ answers
@@ -62,7 +63,8 @@ pub record ServesLines (path : List ℕ) (answers : ℕ) (before after : Ends) :
   pub schedule : list_all is_short given ≡ true → IsScheduleOf (record_text given) given
   pub orderly : Orderly (service_story given)
 
--- It has stopped earlier. What is still to come is what came after the answers that were given.
+-- It has stopped earlier. What is still to come is the rest of the service's story, behind what it shows over the answers that
+-- were given. So a question that was put after them is the one with which the service's story over these answers ends.
 pub record StopsLines (path : List ℕ) (answers : ℕ) (why : Stop) (before after : Ends) : Type 0 where
   pub rest : Course
   pub stopped : IsStopped path answers why (with_course service_course before) (with_course rest after)

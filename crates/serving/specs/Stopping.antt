@@ -16,10 +16,11 @@ use Rattle.serving.specs.declared.stop.Stop.{Stop}
 use Rattle.serving.specs.declared.stop.Stop.TheVariants as stops
 use Rattle.machine_driver.specs.Driver.{with_front}
 use Rattle.service_rules.specs.Exchanges.{Exchange, Suits}
+use Rattle.service_rules.specs.Watching.{Shown}
 use Rattle.service_records.specs.Records.{record_header}
 use Rattle.serving.specs.Exchanges.{exchanges_in, link_answer, clock_answer, routine_answer, link_part, clock_part, routine_part}
 use Rattle.serving.specs.Machines.{Course, question_shown}
-use Rattle.serving.specs.Serving.{Scene}
+use Rattle.serving.specs.Serving.{Scene, ShowsOver}
 
 -- ---- a question without a usable answer
 
@@ -100,12 +101,15 @@ Explains (Forgotten q wanted i) why = why ≡ stops.Memory
 Explains (Heard q wanted i) why = why ≢ stops.Link
 
 -- Serving has stopped. At most so many answers were given and are on record. The ends were asked what the story over them
--- prescribes, and then what was begun; a part of its line may be on record.
+-- prescribes, and then what was begun; a part of its line may be on record. What is still to come is the rest of that story, behind
+-- what it has shown: so a question that was begun is the one with which the story over these answers ends.
 pub record Stops (why : Stop) (answers : ℕ) (before after : Scene) : Type 0 where
   pub given : List Input
   pub done : List Exchange
+  pub shown : List Shown
   pub begun : Begun
   pub many : length given ≤ answers
+  pub story : ShowsOver given shown before.course after.course
   pub follows : (is : List Input) → exchanges_in (before.course.story (given ++ is)) (given ++ is) ≡ with_front done (exchanges_in (after.course.story is) is)
   pub next : IsNext begun after.course
   pub reason : Explains begun why

@@ -48,13 +48,15 @@ fn serve_begun<M: Machine, L: Link, C: Clock, R: Routines, K: Sink>(
 
 /// Serves lines at the path: a line service is made, and `answers` answers are given to it, each of which is put on
 /// record before the service has it. The link, the clock and the routines are asked what the service's story over these
-/// answers prescribes. The record is a schedule that replays to this story.
+/// answers prescribes. Where no answer names more than 20,164 ready descriptors, the record is a schedule of which no
+/// line is refused, with these answers as its inputs, so it replays to this story.
 ///
 /// # Errors
 ///
 /// `Link` where listening or a wait has failed, and `Write` where a put has, which that end has counted as a fault.
 /// `Memory` where memory ran out. Each time `answers` answers at most were given, and the record is the header with
-/// their lines, and a part of one more line at most.
+/// their lines, and a part of one more line at most. A question that was put after them is the one with which the
+/// service's story over these answers ends.
 pub fn serve_lines<L: Link, C: Clock, R: Routines, K: Sink>(
     alloc: Global,
     path: &str,

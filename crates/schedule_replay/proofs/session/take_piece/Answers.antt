@@ -1,8 +1,7 @@
-use Rattle.std.proofs.Common.{[], arith}
+use Rattle.std.proofs.Common.{arith}
 use Rattle.std.proofs.lemmas.Result.{err_from_is_err_and}
 use Rattle.line_pieces.specs.States.{reading_of}
-use Rattle.line_pieces.proofs.Feeding.{is-empty}
-use Rattle.schedule_replay.proofs.SessionLaws.{some-none, some-more, some-all, some-error}
+use Rattle.schedule_replay.proofs.SessionLaws.{some-none, some-more, some-error}
 use Rattle.schedule_replay.proofs.session.take_piece.Goals as goal
 
 pub runs-init : goal.runs-init

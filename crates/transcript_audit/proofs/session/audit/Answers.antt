@@ -1,4 +1,5 @@
-use Rattle.transcript_audit.proofs.Findings.{broken_by, complete_by, orderly_by}
+use Rattle.std.proofs.Common.{◌∙◌, sym}
+use Rattle.transcript_audit.proofs.Findings.{broken_by, complete_by, orderly_by, read_only}
 use Rattle.transcript_audit.proofs.session.audit.Goals as goal
 
 pub returns-clause-orderly : goal.returns-clause-orderly
@@ -12,4 +13,4 @@ returns-clause-broken g c = λ line rule is.
 pub returns-clause-complete : goal.returns-clause-complete
 returns-clause-complete g c =
     complete_by (g.S.Source.left c.args.input.now) c.ending.result (g.S.Source.faults c.args.input.now) (g.S.Source.faults c.run.new.input)
-    c.returns-clause-read.counted (rw c.ending.ensures c.run.ensures.found)
+    (λ e. c.run.ensures.reads.counted (read_only c.run.result (sym c.ending.ensures ∙ e))) (rw c.ending.ensures c.run.ensures.found)
