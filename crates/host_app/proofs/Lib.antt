@@ -1,1 +1,2 @@
 pub mod MainLaws
+pub mod AuditLaws

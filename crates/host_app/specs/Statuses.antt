@@ -50,13 +50,17 @@ reason_text Form = codes ": form\n"
 reason_text NotAsked = codes ": not asked\n"
 reason_text Token = codes ": token\n"
 
+-- a number in decimal between two texts
+abbrev pub numbered : List ℕ → ℕ → List ℕ → List ℕ
+numbered before number after = before ++ (decimal number ++ after)
+
 abbrev pub line_text : ℕ → Reason → List ℕ
-line_text line reason = codes "line " ++ decimal line ++ reason_text reason
+line_text line reason = numbered (codes "line ") line (reason_text reason)
 
 -- a line of no form is told as a schedule's is
 abbrev pub flaw_text : ℕ → ℕ → List ℕ
 flaw_text line zero = line_text line Form
-flaw_text line (suc rule) = (codes "line " ++ decimal line ++ codes ": rule ") ++ decimal (suc rule) ++ codes "\n"
+flaw_text line (suc rule) = numbered (codes "line ") line (codes ": rule ") ++ numbered [] (suc rule) (codes "\n")
 
 -- what is said of a status; where words aren't taken `clap` has said what to type
 abbrev pub status_text : Status → List ℕ

@@ -201,7 +201,12 @@ fn broken(line: u64, rule: u32) -> Status {
 #[test]
 fn each_transcript_is_orderly_or_has_its_first_flaw(rt: HostRuntime) -> Result<(), Fail> {
     let cases = [
-        (NOTHING, Status::Done, b"orderly 2\n".as_slice(), b"".as_slice()),
+        (
+            NOTHING,
+            Status::Done,
+            b"orderly 2\n".as_slice(),
+            b"".as_slice(),
+        ),
         (CHILDREN_FREED, Status::Done, b"orderly 12\n", b""),
         (REPORTED, Status::Done, b"orderly 14\n", b""),
         (b"", broken(1, 0), b"", b"line 1: form\n"),

@@ -128,7 +128,7 @@ returns-clause-audit_memory g c = λ named memory.
       | in-Ok-Replay w ↦
           let is : names c.args.words.now ≡ Some Replay = search rules in
           absurd (not-audit (sym is ∙ named))
-      | in-Ok-Audit w ↦ rw w.out-is (w.audit_transcript.ensures.memory_front (sym w.status-is ∙ memory))
+      | in-Ok-Audit w ↦ rw w.out-is (w.audit_transcript-status.ensures.memory_front (sym w.status-is ∙ memory))
       | in-Ok-Serve w ↦
           let is : names c.args.words.now ≡ Some (Serve w.in-Ok-Serve.path.now w.in-Ok-Serve.answers) = search rules in
           absurd (audit-not-serve w.in-Ok-Serve.path.now w.in-Ok-Serve.answers (sym named ∙ is))
@@ -148,7 +148,7 @@ returns-clause-audit_complete g c = λ named.
       | in-Ok-Replay w ↦
           let is : names c.args.words.now ≡ Some Replay = search rules in
           absurd (not-audit (sym is ∙ named))
-      | in-Ok-Audit w ↦ rw (w.input-is, w.out-is, w.status-is) w.audit_transcript.ensures.complete
+      | in-Ok-Audit w ↦ rw (w.input-is, w.out-is, w.status-is) w.audit_transcript-status.ensures.complete
       | in-Ok-Serve w ↦
           let is : names c.args.words.now ≡ Some (Serve w.in-Ok-Serve.path.now w.in-Ok-Serve.answers) = search rules in
           absurd (audit-not-serve w.in-Ok-Serve.path.now w.in-Ok-Serve.answers (sym named ∙ is))
