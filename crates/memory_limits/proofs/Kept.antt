@@ -1,5 +1,5 @@
 -- The sums stay those of what is inside, where it is told what has changed.
-use Rattle.std.proofs.Common.{◌≡◌, ℕ, zero, suc, ◌+◌, ◌<◌, ◌≤◌, List, [], ◌∷◌, length, map, Option, Some, None, Ok, Err, true, false, ◌&&◌, nat_lt, if◌then◌else◌, refl, sym, ◌∙◌, ap, arith}
+use Rattle.std.proofs.Common.{◌≡◌, ℕ, zero, suc, ◌+◌, ◌<◌, ◌≤◌, List, [], ◌∷◌, map, Option, Some, None, Ok, Err, true, false, ◌&&◌, nat_lt, if◌then◌else◌, refl, sym, ◌∙◌, ap, arith}
 use Rattle.tree_specs.specs.declared.kind.Kind.{Kind}
 use Rattle.tree_specs.specs.declared.kind.Kind.TheVariants.{Plain}
 use Rattle.tree_specs.specs.declared.object.Obj.{Obj}
@@ -15,8 +15,7 @@ use Rattle.tree_specs.specs.Calls.Refusals.{is_plain, is_plain_row, checked, ref
 use Rattle.tree_specs.specs.declared.reply.Refusal.TheVariants.{OverLimit}
 use Rattle.std.specs.List.{AllByRecursion}
 use Rattle.tree_specs.proofs.Tree.Numbered.{by_test, same-true, same-false, same-equal}
-use Rattle.tree_specs.proofs.Tree.Ancestry.{no_way_back}
-use Rattle.tree_specs.proofs.Tree.SumLaws.{sum-below, sum-lone, sum-before, sum-sized}
+use Rattle.tree_specs.proofs.Tree.SumLaws.{sum-anywhere, sum-below, sum-lone, sum-before, sum-sized}
 use Rattle.tree_links.specs.Links.{IsTree}
 use Rattle.tree_links.proofs.Weighing.{sum-small}
 use Rattle.memory_limits.specs.declared.change.Change.{Change}
@@ -98,20 +97,9 @@ sum-found (k ∷ ls) rs x l s e = by_test (same k.object x)
 pub all-kept : (ls : List Limited) (rs : List Row) (x : Obj) → AllSums ls rs → IsKeptSum ls rs x
 all-kept ls rs x s = λ l e. sum-found ls rs x l s e
 
--- what is inside an object doesn't count its owner
-own-sum : (rs : List Row) (next : ℕ) (x : Obj) → IsTree rs next → sum_inside (changed left_row rs x) (Of x) ≡ sum_inside rs (Of x)
-own-sum rs next x t = each (owner_of rs x) refl
-  where
-    each : (o : Option Owner) → owner_of rs x ≡ o → sum_inside (changed left_row rs x) (Of x) ≡ sum_inside rs (Of x)
-    each None e = sym (sum-lone rs x e (Of x))
-    each (Some o) e =
-        let out : is_inside rs o (Of x) ≡ false = rw e at (no_way_back rs (length rs) (suc (length rs)) (Of x) (t.forest.rooted (Of x))) in
-        let b = rw out at (sum-below rs x o t.forest.rooted e (Of x)) in
-        omega (arith, b)
-
--- so its own sum is right where it has left, and where it is yet to leave an owner that isn't inside it
+-- an object's own sum is right where it has left, and where it is yet to leave an owner that isn't inside it
 pub kept-left : (ls : List Limited) (rs : List Row) (next : ℕ) (x : Obj) → IsTree rs next → AllSums ls (changed left_row rs x) → IsKeptSum ls rs x
-kept-left ls rs next x t s = λ l e. sum-found ls (changed left_row rs x) x l s e ∙ own-sum rs next x t
+kept-left ls rs next x t s = λ l e. sum-found ls (changed left_row rs x) x l s e ∙ sym (sum-anywhere rs x t.forest.rooted)
 
 pub kept-before : (ls : List Limited) (rs : List Row) (next : ℕ) (x : Obj) (from : Owner) → IsTree rs next → is_row rs x ≡ true → is_inside rs from (Of x) ≡ false → AllSums ls (changed (owned_row from) rs x) → IsKeptSum ls rs x
 kept-before ls rs next x from t is out s = each (row_of rs x) refl
@@ -120,7 +108,7 @@ kept-before ls rs next x from t is out s = each (row_of rs x) refl
     each None e = let bad : false ≡ true = rw e at is in cc
     each (Some r) there = λ l e.
         let b = rw out at (sum-before rs x r from t.forest.rooted there out (Of x)) in
-        let own = own-sum rs next x t in
+        let own = sum-anywhere rs x t.forest.rooted in
         omega (arith, sum-found ls (changed (owned_row from) rs x) x l s e, b, own)
 
 -- ---- an object without a limit
