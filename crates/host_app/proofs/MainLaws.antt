@@ -13,7 +13,7 @@ use Rattle.schedule_replay.proofs.WholeLaws.{not-begun}
 use Rattle.load_schedule.specs.Loads.{PutsFiveLines}
 use Rattle.load_schedule.proofs.LoadLaws.{load-front}
 use Rattle.command_words.specs.CommandLine.{Asked}
-use Rattle.command_words.specs.CommandLine.Asked.{Audit, Load, Replay, Serve}
+use Rattle.command_words.specs.CommandLine.Asked.{Load, Serve}
 use Rattle.host_app.specs.declared.status.Status.{Status}
 use Rattle.host_app.specs.declared.status.Status.TheVariants as statuses
 use Rattle.serving.specs.declared.stop.Stop.{Stop}
@@ -21,7 +21,7 @@ use Rattle.serving.specs.declared.stop.Stop.TheVariants as stops
 use Rattle.serving.specs.Stations.{Ends, ServesLines, StopsLines}
 use Rattle.serving.proofs.LinesLaws.{no_service}
 use Rattle.host_app.specs.Serves.{Serves}
-use Rattle.host_app.specs.Statuses.{status_of, status_of_load, status_of_service}
+use Rattle.host_app.specs.Statuses.{status_of, status_of_put, status_of_service}
 use Rattle.host_app.specs.Audits.{WritesOrderlyFront}
 use Rattle.host_app.specs.Mains.{Loads, Says}
 
@@ -69,7 +69,7 @@ says-by held now room room_now faults faults_now (Err put_errors.Memory) text p 
 pub kept-front : (left held now : Option (List ℕ)) → now ≡ held → IfSome left (λ bytes. IsFrontOf bytes held now)
 kept-front left held now e = subst (λ (h : Option (List ℕ)). IfSome left (λ bytes. IsFrontOf bytes held h)) (sym e) (not-begun left held)
 
-pub loads-by : (number count : ℕ) (held now : Option (List ℕ)) (r : Result (Unit {0}) PutError) (status : Status) → status ≡ status_of_load r → PutsFiveLines number count held now r → Loads number count held now status
+pub loads-by : (number count : ℕ) (held now : Option (List ℕ)) (r : Result (Unit {0}) PutError) (status : Status) → status ≡ status_of_put r → PutsFiveLines number count held now r → Loads number count held now status
 loads-by number count held now (Ok done) status e p = rw e p
 loads-by number count held now (Err put_errors.Write) status e p = rw e p
 loads-by number count held now (Err put_errors.Memory) status e p = rw e p
@@ -81,17 +81,9 @@ same-load m n k l e = (cc, cc)
 pub loads-same : (m n k l : ℕ) (held now : Option (List ℕ)) (status : Status) → Some (Load m n) ≡ Some (Load k l) → Loads m n held now status → Loads k l held now status
 loads-same m n k l held now status e h = let s = same-load m n k l e in subst (λ (a : ℕ). Loads a l held now status) s.0 (subst (λ (b : ℕ). Loads m b held now status) s.1 h)
 
-pub not-load : (number count : ℕ) → Some Replay ≡ Some (Load number count) → ⊥
-not-load number count e = cc
-
-pub audit-not-load : (number count : ℕ) → Some Audit ≡ Some (Load number count) → ⊥
-audit-not-load number count e = cc
-
-pub not-audit : Some Replay ≡ Some Audit → ⊥
-not-audit e = cc
-
-pub not-named : (asked : Asked) (c : Option Asked) → c ≡ None → c ≡ Some asked → ⊥
-not-named asked c e f = let g : None ≡ Some asked = subst (λ (d : Option Asked). d ≡ Some asked) e f in cc
+-- the same words don't ask for two things
+pub asked-once : {A : Type 0} (c d e : Option Asked) → c ≡ d → c ≡ e → (d ≡ e → ⊥) → A
+asked-once c d e is named apart = absurd (apart (sym is ∙ named))
 
 pub load-none : (number count : ℕ) (held now : Option (List ℕ)) (status : Status) → now ≡ held → status ≡ statuses.NoMemory → Loads number count held now status
 load-none number count held now status e m = rw (m, e) (load-front number count held)
@@ -104,15 +96,6 @@ audit-none None held now e = tt
 audit-none (Some bytes) held now e = inl e
 
 -- ---- the service of lines
-
-pub not-serve : (path : List ℕ) (answers : ℕ) → Some Replay ≡ Some (Serve path answers) → ⊥
-not-serve path answers e = cc
-
-pub audit-not-serve : (path : List ℕ) (answers : ℕ) → Some Audit ≡ Some (Serve path answers) → ⊥
-audit-not-serve path answers e = cc
-
-pub load-not-serve : (path : List ℕ) (answers number count : ℕ) → Some (Load number count) ≡ Some (Serve path answers) → ⊥
-load-not-serve path answers number count e = cc
 
 pub serves-by : (path : List ℕ) (answers : ℕ) (r : Result (Unit {0}) Stop) (status : Status) (before after : Ends) → status ≡ status_of_service r → OnOk r (ServesLines path answers before after)
     → IfErr r (λ why. StopsLines path answers why before after) → Serves path answers status before after

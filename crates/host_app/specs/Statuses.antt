@@ -19,11 +19,11 @@ status_of (rans.BadSchedule line reason) = statuses.BadSchedule line reason
 status_of rans.WriteFault = statuses.WriteFault
 status_of rans.Memory = statuses.NoMemory
 
--- how a load ended
-abbrev pub status_of_load : Result (Unit {0}) PutError → Status
-status_of_load (Ok done) = statuses.Done
-status_of_load (Err put_errors.Write) = statuses.WriteFault
-status_of_load (Err put_errors.Memory) = statuses.NoMemory
+-- how it ended where only puts could fail, or memory run out
+abbrev pub status_of_put : Result (Unit {0}) PutError → Status
+status_of_put (Ok done) = statuses.Done
+status_of_put (Err put_errors.Write) = statuses.WriteFault
+status_of_put (Err put_errors.Memory) = statuses.NoMemory
 
 -- how the service of lines ended
 abbrev pub status_of_service : Result (Unit {0}) Stop → Status

@@ -1,5 +1,5 @@
 //! The command `audit`: what it writes of a transcript, and its status.
-ghost use Rattle.std.specs.Prelude.{◌≡◌, ◌≢◌, ◌⊎◌, ℕ, IfSome, None};
+ghost use Rattle.std.specs.Prelude.{◌≡◌, ◌≢◌, ◌⊎◌, ℕ, IfSome, None, Some};
 ghost use Rattle.tree_specs.specs.declared.schedule.Reason.{Reason};
 ghost use Rattle.outside.specs.Causes.{Rose};
 ghost use Rattle.audit_rules.specs.Flaws.{flaw};
@@ -27,6 +27,8 @@ pub fn audit_transcript<S: Source, K: Sink>(alloc: Global, input: &mut S, out: &
     ensures memory_front { result ≡ Status.NoMemory → IfSome (S.left input.old) (λ bytes. (K.held out.new ≡ K.held out.old) ⊎ WritesOrderlyFront bytes (K.held out.old) (K.held out.new)) }
     ensures complete { IfSome (S.left input.old) (λ bytes. flaw bytes ≡ None →
         (Rose (S.faults input.old) (S.faults input.new) → ⊥) → (Rose (K.faults out.old) (K.faults out.new) → ⊥) → (result ≡ Status.Done) ⊎ (result ≡ Status.NoMemory)) }
+    ensures flawed { IfSome (S.left input.old) (λ bytes. (line rule : ℕ) → flaw bytes ≡ Some (line, rule) →
+        (Rose (S.faults input.old) (S.faults input.new) → ⊥) → (result ≡ Status.Broken line rule) ⊎ (result ≡ Status.NoMemory)) }
     ensures no_schedule { (line : ℕ) (reason : Reason) → result ≢ Status.BadSchedule line reason }
     ensures no_usage { result ≢ Status.Usage }
     ensures no_link { result ≢ Status.LinkFault }

@@ -85,13 +85,16 @@ pub fn host_main<S: Source, K: Sink, E: Sink, L: Link, C: Clock, R: Routines>(
     ensures broken_words { (line rule : ℕ) → result ≡ Status.Broken line rule → names words.now ≡ Some Audit }
 
     // After a failed read nothing is written, after a fault of `out` a prefix of the line, and one of both where memory
-    // runs out. Where no line has a flaw and no fault was counted, all is done, or memory ran out.
+    // runs out. Where no line has a flaw and no fault was counted, all is done, or memory ran out. Where one has and no
+    // failed read was counted, that is said, or memory ran out.
     ensures audit_read { names words.now ≡ Some Audit → result ≡ Status.ReadFault → out.new ≡ out.old }
     ensures audit_front { names words.now ≡ Some Audit → result ≡ Status.WriteFault → IfSome (S.left input.old) (λ bytes. WritesOrderlyFront bytes (K.held out.old) (K.held out.new)) }
     ensures audit_memory { names words.now ≡ Some Audit → result ≡ Status.NoMemory → IfSome (S.left input.old) (λ bytes.
         (K.held out.new ≡ K.held out.old) ⊎ WritesOrderlyFront bytes (K.held out.old) (K.held out.new)) }
     ensures audit_complete { names words.now ≡ Some Audit → IfSome (S.left input.old) (λ bytes. flaw bytes ≡ None →
         (Rose (S.faults input.old) (S.faults input.new) → ⊥) → (Rose (K.faults out.old) (K.faults out.new) → ⊥) → (result ≡ Status.Done) ⊎ (result ≡ Status.NoMemory)) }
+    ensures audit_flawed { names words.now ≡ Some Audit → IfSome (S.left input.old) (λ bytes. (line rule : ℕ) → flaw bytes ≡ Some (line, rule) →
+        (Rose (S.faults input.old) (S.faults input.new) → ⊥) → (result ≡ Status.Broken line rule) ⊎ (result ≡ Status.NoMemory)) }
 
     // Of the words `serve PATH ANSWERS`: so many answers were given to the service, over this path, and are on record. The
     // link, the clock and the routines were asked what its story over them prescribes. Where no answer names more than

@@ -1,6 +1,6 @@
 //! How the program ends, and the number for it.
 ghost use Rattle.std.specs.Prelude.{◌≡◌};
-ghost use Rattle.host_app.specs.Statuses.{status_of, status_of_load, status_of_service, status_number};
+ghost use Rattle.host_app.specs.Statuses.{status_of, status_of_put, status_of_service, status_number};
 
 use outside::PutError;
 use schedule_replay::Ran;
@@ -62,10 +62,10 @@ impl From<Ran> for Status {
 }
 
 impl From<Result<(), PutError>> for Status {
-    ghost from_gives = { λ loaded status. status ≡ status_of_load loaded };
+    ghost from_gives = { λ put status. status ≡ status_of_put put };
 
-    fn from(loaded: Result<(), PutError>) -> Status {
-        match loaded {
+    fn from(put: Result<(), PutError>) -> Status {
+        match put {
             Ok(()) => Status::Done,
             Err(PutError::Write) => Status::WriteFault,
             Err(PutError::Memory) => Status::NoMemory,

@@ -1,4 +1,4 @@
-use Rattle.std.proofs.Common.{rules, arith, ℕ, ◌≡◌, ◌∙◌, ap, subst, sym, Some, None, Ok}
+use Rattle.std.proofs.Common.{rules, arith, ℕ, ◌≡◌, ◌∙◌, ap, subst, sym, Some, None, Ok, inr}
 use Rattle.command_words.specs.CommandLine.Asked.{Audit, Load, Replay, Serve}
 use Rattle.command_words.specs.declared.command.Command.{Command}
 use Rattle.audit_rules.specs.Flaws.{flaw}
@@ -6,7 +6,8 @@ use Rattle.serving.specs.Stations.{ends}
 use Rattle.host_app.specs.Mains.{names, Loads, Says}
 use Rattle.host_app.specs.Serves.{Serves}
 use Rattle.host_app.specs.Statuses.{status_text}
-use Rattle.host_app.proofs.MainLaws.{Accepted, audit-none, audit-not-load, audit-not-serve, not-audit, replay-complete, replay-front, kept-front, load-none, load-not-serve, loads-by, loads-same, memory-complete, not-load, not-named, not-serve, says-by, serves-by, serves-none, serves-same}
+use Rattle.host_app.proofs.AuditLaws.{none-ends}
+use Rattle.host_app.proofs.MainLaws.{Accepted, asked-once, audit-none, kept-front, load-none, loads-by, loads-same, memory-complete, replay-complete, replay-front, says-by, serves-by, serves-none, serves-same}
 use Rattle.host_app.proofs.main_call.host_main.Goals as goal
 use Rattle.host_app.proofs.main_call.host_main.Goals.{in-Ok-Replay, in-Ok-Audit, in-Ok-Serve, in-Ok-Load, in-Err-Usage, in-Err-Memory}
 
@@ -16,13 +17,13 @@ returns-clause-memory_front g c = λ named memory. elim c.match-read_words.branc
       (w.status-is ∙ w.from-status.ensures) w.replay.ensures.replays memory)
   | in-Ok-Audit w ↦
       let is : names c.args.words.now ≡ Some Audit = search rules in
-      absurd (not-audit (sym named ∙ is))
+      asked-once _ _ _ is named (λ e. cc)
   | in-Ok-Serve w ↦
       let is : names c.args.words.now ≡ Some (Serve w.in-Ok-Serve.path.now w.in-Ok-Serve.answers) = search rules in
-      absurd (not-serve w.in-Ok-Serve.path.now w.in-Ok-Serve.answers (sym named ∙ is))
+      asked-once _ _ _ is named (λ e. cc)
   | in-Ok-Load w ↦
       let is : names c.args.words.now ≡ Some (Load w.in-Ok-Load.number w.in-Ok-Load.count) = search rules in
-      absurd (not-load w.in-Ok-Load.number w.in-Ok-Load.count (sym named ∙ is))
+      asked-once _ _ _ is named (λ e. cc)
   | in-Err-Usage w ↦ kept-front (g.S.Source.left c.args.input.now) (g.K.Sink.held c.args.out.now) (g.K.Sink.held c.match-read_words.out) (ap g.K.Sink.held w.out-is)
   | in-Err-Memory w ↦ kept-front (g.S.Source.left c.args.input.now) (g.K.Sink.held c.args.out.now) (g.K.Sink.held c.match-read_words.out) (ap g.K.Sink.held w.out-is)
 ]
@@ -31,13 +32,13 @@ pub returns-clause-loads : goal.returns-clause-loads
 returns-clause-loads g c = λ number count named. elim c.match-read_words.branch [
   | in-Ok-Replay w ↦
       let is : names c.args.words.now ≡ Some Replay = search rules in
-      absurd (not-load number count (sym is ∙ named))
+      asked-once _ _ _ is named (λ e. cc)
   | in-Ok-Audit w ↦
       let is : names c.args.words.now ≡ Some Audit = search rules in
-      absurd (audit-not-load number count (sym is ∙ named))
+      asked-once _ _ _ is named (λ e. cc)
   | in-Ok-Serve w ↦
       let is : names c.args.words.now ≡ Some (Serve w.in-Ok-Serve.path.now w.in-Ok-Serve.answers) = search rules in
-      absurd (load-not-serve w.in-Ok-Serve.path.now w.in-Ok-Serve.answers number count (sym named ∙ is))
+      asked-once _ _ _ is named (λ e. cc)
   | in-Ok-Load w ↦
       let is : names c.args.words.now ≡ Some (Load w.in-Ok-Load.number w.in-Ok-Load.count) = search rules in
       let done : Loads w.in-Ok-Load.number w.in-Ok-Load.count (g.K.Sink.held c.args.out.now) (g.K.Sink.held c.match-read_words.out) c.match-read_words.status =
@@ -45,7 +46,7 @@ returns-clause-loads g c = λ number count named. elim c.match-read_words.branch
       loads-same w.in-Ok-Load.number w.in-Ok-Load.count number count (g.K.Sink.held c.args.out.now) (g.K.Sink.held c.match-read_words.out) c.match-read_words.status (sym is ∙ named) done
   | in-Err-Usage w ↦
       let none : names c.args.words.now ≡ None = search rules in
-      absurd (not-named (Load number count) (names c.args.words.now) none named)
+      asked-once _ _ _ none named (λ e. cc)
   | in-Err-Memory w ↦ load-none number count (g.K.Sink.held c.args.out.now) (g.K.Sink.held c.match-read_words.out) c.match-read_words.status (ap g.K.Sink.held w.out-is) w.status-is
 ]
 
@@ -53,10 +54,10 @@ pub returns-clause-serves : goal.returns-clause-serves
 returns-clause-serves g c = λ path answers named. elim c.match-read_words.branch [
   | in-Ok-Replay w ↦
       let is : names c.args.words.now ≡ Some Replay = search rules in
-      absurd (not-serve path answers (sym is ∙ named))
+      asked-once _ _ _ is named (λ e. cc)
   | in-Ok-Audit w ↦
       let is : names c.args.words.now ≡ Some Audit = search rules in
-      absurd (audit-not-serve path answers (sym is ∙ named))
+      asked-once _ _ _ is named (λ e. cc)
   | in-Ok-Serve w ↦
       let is : names c.args.words.now ≡ Some (Serve w.in-Ok-Serve.path.now w.in-Ok-Serve.answers) = search rules in
       let before = ends (g.L.Link.told c.args.link.now) (g.C.Clock.told c.args.clock.now) (g.R.Routines.told c.args.routines.now) (g.K.Sink.held c.args.out.now) in
@@ -67,10 +68,10 @@ returns-clause-serves g c = λ path answers named. elim c.match-read_words.branc
       (serves-by w.in-Ok-Serve.path.now w.from.result w.serve_lines.result c.match-read_words.status before after (w.status-is ∙ w.from-status-in-Ok-Serve.ensures) w.serve_lines.ensures.serves w.serve_lines.ensures.stops)))
   | in-Ok-Load w ↦
       let is : names c.args.words.now ≡ Some (Load w.in-Ok-Load.number w.in-Ok-Load.count) = search rules in
-      absurd (load-not-serve path answers w.in-Ok-Load.number w.in-Ok-Load.count (sym is ∙ named))
+      asked-once _ _ _ is named (λ e. cc)
   | in-Err-Usage w ↦
       let none : names c.args.words.now ≡ None = search rules in
-      absurd (not-named (Serve path answers) (names c.args.words.now) none named)
+      asked-once _ _ _ none named (λ e. cc)
   | in-Err-Memory w ↦ rw (w.link-is, w.clock-is, w.routines-is, w.out-is) (serves-none path answers c.match-read_words.status _ w.status-is)
 ]
 
@@ -89,16 +90,16 @@ returns-clause-complete g c = λ named.
           (w.status-is ∙ w.from-status.ensures) w.replay.ensures.complete)
       | in-Ok-Audit w ↦
           let is : names c.args.words.now ≡ Some Audit = search rules in
-          absurd (not-audit (sym named ∙ is))
+          asked-once _ _ _ is named (λ e. cc)
       | in-Ok-Serve w ↦
           let is : names c.args.words.now ≡ Some (Serve w.in-Ok-Serve.path.now w.in-Ok-Serve.answers) = search rules in
-          absurd (not-serve w.in-Ok-Serve.path.now w.in-Ok-Serve.answers (sym named ∙ is))
+          asked-once _ _ _ is named (λ e. cc)
       | in-Ok-Load w ↦
           let is : names c.args.words.now ≡ Some (Load w.in-Ok-Load.number w.in-Ok-Load.count) = search rules in
-          absurd (not-load w.in-Ok-Load.number w.in-Ok-Load.count (sym named ∙ is))
+          asked-once _ _ _ is named (λ e. cc)
       | in-Err-Usage w ↦
           let none : names c.args.words.now ≡ None = search rules in
-          absurd (not-named Replay (names c.args.words.now) none named)
+          asked-once _ _ _ none named (λ e. cc)
       | in-Err-Memory w ↦ memory-complete Accepted left (reads c.args.input.now) (reads c.match-read_words.input) (writes c.args.out.now) (writes c.match-read_words.out) c.match-read_words.status w.status-is
     ]
 
@@ -127,14 +128,14 @@ returns-clause-audit_memory g c = λ named memory.
     elim c.match-read_words.branch [
       | in-Ok-Replay w ↦
           let is : names c.args.words.now ≡ Some Replay = search rules in
-          absurd (not-audit (sym is ∙ named))
+          asked-once _ _ _ is named (λ e. cc)
       | in-Ok-Audit w ↦ rw w.out-is (w.audit_transcript-status.ensures.memory_front (sym w.status-is ∙ memory))
       | in-Ok-Serve w ↦
           let is : names c.args.words.now ≡ Some (Serve w.in-Ok-Serve.path.now w.in-Ok-Serve.answers) = search rules in
-          absurd (audit-not-serve w.in-Ok-Serve.path.now w.in-Ok-Serve.answers (sym named ∙ is))
+          asked-once _ _ _ is named (λ e. cc)
       | in-Ok-Load w ↦
           let is : names c.args.words.now ≡ Some (Load w.in-Ok-Load.number w.in-Ok-Load.count) = search rules in
-          absurd (audit-not-load w.in-Ok-Load.number w.in-Ok-Load.count (sym named ∙ is))
+          asked-once _ _ _ is named (λ e. cc)
       | in-Err-Usage w ↦ audit-none left (held c.args.out.now) (held c.match-read_words.out) (ap held w.out-is)
       | in-Err-Memory w ↦ audit-none left (held c.args.out.now) (held c.match-read_words.out) (ap held w.out-is)
     ]
@@ -147,16 +148,36 @@ returns-clause-audit_complete g c = λ named.
     elim c.match-read_words.branch [
       | in-Ok-Replay w ↦
           let is : names c.args.words.now ≡ Some Replay = search rules in
-          absurd (not-audit (sym is ∙ named))
+          asked-once _ _ _ is named (λ e. cc)
       | in-Ok-Audit w ↦ rw (w.input-is, w.out-is, w.status-is) w.audit_transcript-status.ensures.complete
       | in-Ok-Serve w ↦
           let is : names c.args.words.now ≡ Some (Serve w.in-Ok-Serve.path.now w.in-Ok-Serve.answers) = search rules in
-          absurd (audit-not-serve w.in-Ok-Serve.path.now w.in-Ok-Serve.answers (sym named ∙ is))
+          asked-once _ _ _ is named (λ e. cc)
       | in-Ok-Load w ↦
           let is : names c.args.words.now ≡ Some (Load w.in-Ok-Load.number w.in-Ok-Load.count) = search rules in
-          absurd (audit-not-load w.in-Ok-Load.number w.in-Ok-Load.count (sym named ∙ is))
+          asked-once _ _ _ is named (λ e. cc)
       | in-Err-Usage w ↦
           let none : names c.args.words.now ≡ None = search rules in
-          absurd (not-named Audit (names c.args.words.now) none named)
+          asked-once _ _ _ none named (λ e. cc)
       | in-Err-Memory w ↦ memory-complete (λ bytes. flaw bytes ≡ None) left (reads c.args.input.now) (reads c.match-read_words.input) (writes c.args.out.now) (writes c.match-read_words.out) c.match-read_words.status w.status-is
+    ]
+
+pub returns-clause-audit_flawed : goal.returns-clause-audit_flawed
+returns-clause-audit_flawed g c = λ named.
+    let left = g.S.Source.left c.args.input.now in
+    elim c.match-read_words.branch [
+      | in-Ok-Replay w ↦
+          let is : names c.args.words.now ≡ Some Replay = search rules in
+          asked-once _ _ _ is named (λ e. cc)
+      | in-Ok-Audit w ↦ rw (w.input-is, w.status-is) w.audit_transcript-status.ensures.flawed
+      | in-Ok-Serve w ↦
+          let is : names c.args.words.now ≡ Some (Serve w.in-Ok-Serve.path.now w.in-Ok-Serve.answers) = search rules in
+          asked-once _ _ _ is named (λ e. cc)
+      | in-Ok-Load w ↦
+          let is : names c.args.words.now ≡ Some (Load w.in-Ok-Load.number w.in-Ok-Load.count) = search rules in
+          asked-once _ _ _ is named (λ e. cc)
+      | in-Err-Usage w ↦
+          let none : names c.args.words.now ≡ None = search rules in
+          asked-once _ _ _ none named (λ e. cc)
+      | in-Err-Memory w ↦ none-ends left _ _ _ (λ line rule. inr w.status-is)
     ]
