@@ -113,7 +113,7 @@ unfolding number_at
 number_is text = sym (ap number_of (digits-and-rest text)) ∙ number_after (digits_at text) (drop (digit_count text) text) (ends_otherwise text)
 
 -- the last field is read where all that is left is its spelling
-last_is : {A : Type 0} {read : List ℕ → Option A} {spell : A → List ℕ} {is_sound : A → Bool} (field : IsField read spell is_sound) (text : List ℕ) → last_field read (words text) ≡ (read text leaving [])
+pub last_is : {A : Type 0} {read : List ℕ → Option A} {spell : A → List ℕ} {is_sound : A → Bool} (field : IsField read spell is_sound) (text : List ℕ) → last_field read (words text) ≡ (read text leaving [])
 last_is {A} {read} {spell} {is_sound} field text = by_cases (read text) refl
   where
     one_word : (ws : List (List ℕ)) → joined ws ≡ text → read text ≡ None → last_field read ws ≡ None
