@@ -66,7 +66,7 @@ pub use reply::{Refusal, Reply};
 pub use report::{ReportRow, ReportRows, RowKind};
 pub use request::{Note, State};
 pub use row::{Mark, Row};
-pub use schedule::{Mode, Reason};
+pub use schedule::{Header, Mode, Reason, Version};
 pub use test::Test;
 pub use wants::{AreWants, Want, Wants};
 pub use watch::Watch;
