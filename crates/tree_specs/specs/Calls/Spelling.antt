@@ -131,15 +131,10 @@ pub data Reading : Type 0 where
   TakesOwner : (Owner → Reading) → Reading
   TakesObject : (Obj → Reading) → Reading
   TakesNumeral : Numeral → (ℕ → Reading) → Reading
-  -- a name comes last, and so do bytes, and a context
+  -- a name comes last, and so do bytes, and so does a context where one is said
   EndsInName : (List ℕ → Call) → Reading
   EndsInBytes : (List ℕ → Call) → Reading
   EndsInContext : Call → Reading
-
--- the context of a call, where one is said
-abbrev pub ends_in_context : Version → Call → Reading
-ends_in_context versions.One call = NoMore call
-ends_in_context versions.Two call = EndsInContext call
 
 abbrev pub takes_number : (ℕ → Reading) → Reading
 takes_number next = TakesNumeral Number next
@@ -147,8 +142,8 @@ takes_number next = TakesNumeral Number next
 abbrev pub of_object : (Obj → Call) → Reading
 of_object call = TakesObject (λ x. NoMore (call x))
 
-abbrev pub object_in_context : Version → (Obj → Call) → Reading
-object_in_context v call = TakesObject (λ x. ends_in_context v (call x))
+abbrev pub object_in_context : (Obj → Call) → Reading
+object_in_context call = TakesObject (λ x. EndsInContext (call x))
 
 abbrev pub of_owner : (Owner → Call) → Reading
 of_owner call = TakesOwner (λ owner. NoMore (call owner))
@@ -197,13 +192,13 @@ tree_forms =
     ∷ []
 
 -- calls on events
-abbrev pub event_forms : Version → List Form
-event_forms v =
+abbrev pub event_forms : List Form
+event_forms =
     (codes "immediate" reads of_owner Immediate)
-    ∷ (codes "schedule" reads TakesObject (λ x. TakesNumeral Number32 (λ routine. takes_number (λ user. ends_in_context v (Schedule x routine user)))))
+    ∷ (codes "schedule" reads TakesObject (λ x. TakesNumeral Number32 (λ routine. takes_number (λ user. EndsInContext (Schedule x routine user)))))
     ∷ (codes "unschedule" reads of_object Unschedule)
-    ∷ (codes "timer" reads TakesOwner (λ owner. TakesNumeral Time (λ time. TakesNumeral Positive32 (λ routine. takes_number (λ user. ends_in_context v (Timer owner time routine user))))))
-    ∷ (codes "fd" reads TakesOwner (λ owner. TakesNumeral Number32 (λ fd. TakesNumeral FdFlags (λ flags. TakesNumeral Positive32 (λ routine. takes_number (λ user. ends_in_context v (Fd owner fd flags routine user)))))))
+    ∷ (codes "timer" reads TakesOwner (λ owner. TakesNumeral Time (λ time. TakesNumeral Positive32 (λ routine. takes_number (λ user. EndsInContext (Timer owner time routine user))))))
+    ∷ (codes "fd" reads TakesOwner (λ owner. TakesNumeral Number32 (λ fd. TakesNumeral FdFlags (λ flags. TakesNumeral Positive32 (λ routine. takes_number (λ user. EndsInContext (Fd owner fd flags routine user)))))))
     ∷ (codes "flags" reads TakesObject (λ x. TakesNumeral FdFlags (λ flags. NoMore (Flags x flags))))
     ∷ (codes "getflags" reads of_object Getflags)
     ∷ (codes "autoclose" reads of_object Autoclose)
@@ -219,29 +214,29 @@ descriptor_forms =
     ∷ []
 
 -- calls on requests
-abbrev pub request_forms : Version → List Form
-request_forms v =
+abbrev pub request_forms : List Form
+request_forms =
     (codes "req" reads TakesOwner (λ owner. takes_number (λ size. EndsInName (λ name. Req owner size name))))
     ∷ (codes "callback" reads TakesObject (λ x. TakesNumeral Number32 (λ routine. takes_number (λ user. NoMore (Callback x routine user)))))
-    ∷ (codes "defer" reads object_in_context v Defer)
+    ∷ (codes "defer" reads object_in_context Defer)
     ∷ (codes "cleanup" reads object_and_routine Cleanup)
     ∷ (codes "setcancel" reads object_and_routine Setcancel)
     ∷ (codes "cancel" reads of_object Cancel)
-    ∷ (codes "post" reads object_in_context v Post)
+    ∷ (codes "post" reads object_in_context Post)
     ∷ (codes "done" reads of_object Done)
     ∷ (codes "error" reads object_and_number Error)
     ∷ (codes "oom" reads of_object Oom)
     ∷ (codes "iserror" reads of_object Iserror)
     ∷ (codes "progress" reads of_object Progress)
-    ∷ (codes "endtime" reads TakesObject (λ x. TakesNumeral Time (λ time. ends_in_context v (Endtime x time))))
+    ∷ (codes "endtime" reads TakesObject (λ x. TakesNumeral Time (λ time. EndsInContext (Endtime x time))))
     ∷ (codes "received" reads of_object Received)
     ∷ []
 
 -- calls on queues
-abbrev pub queue_forms : Version → List Form
-queue_forms v =
+abbrev pub queue_forms : List Form
+queue_forms =
     (codes "queue" reads TakesOwner (λ owner. EndsInName (λ name. Queue owner name)))
-    ∷ (codes "enqueue" reads TakesObject (λ queue. TakesObject (λ x. TakesNumeral Positive32 (λ routine. takes_number (λ user. ends_in_context v (Enqueue queue x routine user))))))
+    ∷ (codes "enqueue" reads TakesObject (λ queue. TakesObject (λ x. TakesNumeral Positive32 (λ routine. takes_number (λ user. EndsInContext (Enqueue queue x routine user))))))
     ∷ (codes "start" reads of_object Start)
     ∷ (codes "stop" reads of_object Stop)
     ∷ (codes "length" reads of_object QueueLength)
@@ -249,13 +244,13 @@ queue_forms v =
     ∷ []
 
 -- calls on the loop
-abbrev pub loop_forms : Version → List Form
-loop_forms v =
-    (codes "pending" reads ends_in_context v Pending)
+abbrev pub loop_forms : List Form
+loop_forms =
+    (codes "pending" reads EndsInContext Pending)
     ∷ (codes "now" reads NoMore Now)
-    ∷ (codes "turn" reads ends_in_context v Turn)
+    ∷ (codes "turn" reads EndsInContext Turn)
     ∷ []
 
 -- all calls
-abbrev pub forms : Version → List Form
-forms v = tree_forms ++ event_forms v ++ descriptor_forms ++ request_forms v ++ queue_forms v ++ loop_forms v
+abbrev pub forms : List Form
+forms = tree_forms ++ event_forms ++ descriptor_forms ++ request_forms ++ queue_forms ++ loop_forms

@@ -14,6 +14,7 @@ use Rattle.tree_specs.specs.declared.question.Input.{Input}
 use Rattle.tree_specs.specs.declared.question.Input.TheVariants as inputs
 use Rattle.tree_specs.specs.declared.wants.Want.{Want}
 use Rattle.tree_specs.specs.declared.schedule.Version.{Version}
+use Rattle.tree_specs.specs.declared.schedule.Version.TheVariants.{One, Two}
 use Rattle.tree_specs.specs.Words.Names.{is_name_in}
 use Rattle.tree_specs.specs.Words.Octets.{is_octets}
 use Rattle.tree_specs.specs.Calls.Spelling.{Numeral, Reading, Form, forms}
@@ -104,6 +105,11 @@ with_field reader words next = do
   first ← field reader words
   next first.0 first.1
 
+-- the context that a call says last; in version 1 none is said
+abbrev pub context_at : Version → List (List ℕ) → Option (Unit {0} × List (List ℕ))
+context_at One words = Some (tt, words)
+context_at Two words = field context_of words
+
 -- the call that the words begin with, by what it takes, and the words that it leaves; a name is the last word, and so are bytes
 abbrev pub taken : Version → Reading → List (List ℕ) → Option (Call × List (List ℕ))
 taken v (NoMore call) words = Some (call, words)
@@ -116,7 +122,9 @@ taken v (EndsInName call) words = do
 taken v (EndsInBytes call) words = do
   bytes ← last_field octets_of words
   Some (call bytes.0, bytes.1)
-taken v (EndsInContext call) words = with_field context_of words (λ first more. Some (call, more))
+taken v (EndsInContext call) words = do
+  context ← context_at v words
+  Some (call, context.1)
 
 -- what was read, where no word is left
 abbrev pub ended : {A : Type 0} → A × List (List ℕ) → Option A
@@ -138,7 +146,7 @@ form_in (f ∷ fs) verb = if bytes_eq verb f.verb then Some f.reading else form_
 unfoldable pub call_of_words : Version → List (List ℕ) → Option Call
 call_of_words v [] = None
 call_of_words v (verb ∷ fields) = do
-  reading ← form_in (forms v) verb
+  reading ← form_in forms verb
   read v reading fields
 
 unfoldable pub call_of : Version → List ℕ → Option Call
