@@ -1,5 +1,5 @@
-//! The lines of schedules and of transcripts. An input has one line: what is written is read back as
-//! the same input, and no other line is read as it.
+//! The lines of schedules and of transcripts. An input has one line in each version of the schedules: what is written is
+//! read back as the same input, and no other line is read as it.
 #![tactic(auto)]
 
 mod event;
@@ -15,7 +15,7 @@ mod reply;
 mod tests;
 
 pub use event::write_event;
-pub use header::read_header;
+pub use header::{header_line, read_header};
 pub use line_reader::read_line;
 pub use line_writer::write_input;
 pub use question::{write_answered, write_ask, write_end};

@@ -17,6 +17,7 @@ use Rattle.tree_specs.specs.declared.call.Call.TheVariants.{Free}
 use Rattle.tree_specs.specs.declared.question.Act.TheVariants as acts
 use Rattle.tree_specs.specs.declared.question.Input.{Input}
 use Rattle.tree_specs.specs.declared.question.Input.TheVariants as inputs
+use Rattle.tree_specs.specs.declared.schedule.Version.TheVariants.{Two}
 use Rattle.tree_specs.specs.declared.wants.Want.{Want}
 use Rattle.tree_specs.specs.Words.Names.{is_name, is_graphic}
 use Rattle.tree_specs.specs.Words.Objects.{owner_number}
@@ -25,10 +26,11 @@ use Rattle.tree_specs.specs.Words.Ranges.{is_number, is_in, is_sound_owner, is_s
 use Rattle.tree_specs.specs.Words.Wants.{has_flags, is_want, rises}
 use Rattle.tree_specs.specs.Calls.Spelling.{Numeral, Field, spelling}
 use Rattle.tree_specs.specs.Calls.Spelling.Numeral.{Number}
-use Rattle.tree_specs.specs.Calls.Spelling.Field.{AnOwner, AnObject, ANumeral, AName, SomeBytes}
+use Rattle.tree_specs.specs.Calls.Spelling.Field.{AnOwner, AnObject, ANumeral, AName, SomeBytes, TheContext}
 use Rattle.tree_specs.specs.Texts.Lines.{line_limit}
 use Rattle.tree_specs.specs.Texts.Text.{field_text, call_text, want_text, wants_text}
 use Rattle.text_forms.proofs.Bools.{and_true, list_all-weaker}
+use Rattle.text_forms.proofs.Calls.{sound_fields}
 use Rattle.text_forms.proofs.Numerals.{decimal_digits}
 use Rattle.line_pieces.specs.Cuts.{is_plain, has_no_lf}
 use Rattle.line_pieces.proofs.LineLaws.{plain_append}
@@ -88,12 +90,12 @@ octets-part bs h = record {
 graphic-plain : (b : ℕ) → is_graphic b ≡ true → is_plain b ≡ true
 graphic-plain b h = grind (arith, nat_tests)
 
-name-part : (name : List ℕ) → is_name name ≡ true → IsPart 255 name
+name-part : (name : List ℕ) → is_name name ≡ true → IsPart 1023 name
 name-part name h =
-    let ends = and_true (list_all is_graphic name && leb 1 (length name)) (leb (length name) 255) h in
+    let ends = and_true (list_all is_graphic name && leb 1 (length name)) (leb (length name) 1023) h in
     record {
       plain = list_all-weaker is_graphic is_plain graphic-plain name (and_true (list_all is_graphic name) (leb 1 (length name)) ends.0).0;
-      short = leb-true (length name) 255 ends.1;
+      short = leb-true (length name) 1023 ends.1;
     }
 
 in-range : (kind : Numeral) (n : ℕ) → is_in kind n ≡ true → n < 2 ^ 64
@@ -107,14 +109,15 @@ owner-small (Of x) h = ltb-true x.0 (2 ^ 64) (and_true (ltb 0 x.0) (is_number x.
 -- so many bytes at most has the text of a field
 abbrev most_of : Field → ℕ
 most_of (SomeBytes bytes) = 131072
-most_of f = 255
+most_of f = 1023
 
-field-part : (f : Field) → is_sound_field f ≡ true → IsPart (most_of f) (field_text f)
-field-part (AnOwner o) h = longer 20 255 (decimal (owner_number o)) (omega arith) (number-part (owner_number o) (owner-small o h))
-field-part (AnObject x) h = longer 20 255 (decimal x.0) (omega arith) (number-part x.0 (ltb-true x.0 (2 ^ 64) h))
-field-part (ANumeral kind n) h = longer 20 255 (decimal n) (omega arith) (number-part n (in-range kind n h))
+field-part : (f : Field) → is_sound_field Two f ≡ true → IsPart (most_of f) (field_text f)
+field-part (AnOwner o) h = longer 20 1023 (decimal (owner_number o)) (omega arith) (number-part (owner_number o) (owner-small o h))
+field-part (AnObject x) h = longer 20 1023 (decimal x.0) (omega arith) (number-part x.0 (ltb-true x.0 (2 ^ 64) h))
+field-part (ANumeral kind n) h = longer 20 1023 (decimal n) (omega arith) (number-part n (in-range kind n h))
 field-part (AName name) h = name-part name h
 field-part (SomeBytes bytes) h = octets-part bytes h
+field-part TheContext h = longer 20 1023 (decimal 0) (omega arith) (number-part 0 (omega arith))
 
 -- the same of fields, each with a space before it
 abbrev most_of_all : List Field → ℕ
@@ -124,21 +127,21 @@ most_of_all (f ∷ fs) = 1 + most_of f + most_of_all fs
 abbrev fields_text : List Field → List ℕ
 fields_text fs = flat_map (λ f. codes " " ++ field_text f) fs
 
-sound-parts : (f : Field) (fs : List Field) → all_sound (f ∷ fs) ≡ true → (is_sound_field f ≡ true) × (all_sound fs ≡ true)
+sound-parts : (f : Field) (fs : List Field) → all_sound Two (f ∷ fs) ≡ true → (is_sound_field Two f ≡ true) × (all_sound Two fs ≡ true)
 sound-parts f [] h = (h, refl)
-sound-parts f (g ∷ fs) h = and_true (is_sound_field f) (all_sound (g ∷ fs)) h
+sound-parts f (g ∷ fs) h = and_true (is_sound_field Two f) (all_sound Two (g ∷ fs)) h
 
 space : IsPart 1 (codes " ")
 space = record { plain = refl; short = omega arith }
 
-fields-part : (fs : List Field) → all_sound fs ≡ true → IsPart (most_of_all fs) (fields_text fs)
+fields-part : (fs : List Field) → all_sound Two fs ≡ true → IsPart (most_of_all fs) (fields_text fs)
 fields-part [] h = record { plain = refl; short = omega arith }
 fields-part (f ∷ fs) h =
     let s = sound-parts f fs h in
     together (1 + most_of f) (most_of_all fs) (codes " " ++ field_text f) (fields_text fs)
     (together 1 (most_of f) (codes " ") (field_text f) space (field-part f s.0)) (fields-part fs s.1)
 
-verb-plain : (c : Call) → has_no_lf (spelling c).verb ≡ true
+verb-plain : (c : Call) → has_no_lf (spelling Two c).verb ≡ true
 verb-plain (Free x) = refl
 verb-plain _ = refl
 
@@ -146,17 +149,17 @@ verb-plain _ = refl
 abbrev most_of_call : ℕ
 most_of_call = 140000
 
-call-short : (c : Call) → leb (length (spelling c).verb + most_of_all (spelling c).fields) most_of_call ≡ true
+call-short : (c : Call) → leb (length (spelling Two c).verb + most_of_all (spelling Two c).fields) most_of_call ≡ true
 call-short (Free x) = refl
 call-short _ = refl
 
-call-part : (c : Call) → is_sound_call c ≡ true → IsPart most_of_call (call_text c)
+call-part : (c : Call) → is_sound_call c ≡ true → IsPart most_of_call (call_text Two c)
 unfolding call_text
 call-part c h =
-    let verb : List ℕ = (spelling c).verb in
-    let most : ℕ = most_of_all (spelling c).fields in
-    longer (length verb + most) most_of_call (verb ++ fields_text (spelling c).fields) (leb-true (length verb + most) most_of_call (call-short c))
-    (together (length verb) most verb (fields_text (spelling c).fields) (record { plain = verb-plain c; short = omega arith }) (fields-part (spelling c).fields h))
+    let verb : List ℕ = (spelling Two c).verb in
+    let most : ℕ = most_of_all (spelling Two c).fields in
+    longer (length verb + most) most_of_call (verb ++ fields_text (spelling Two c).fields) (leb-true (length verb + most) most_of_call (call-short c))
+    (together (length verb) most verb (fields_text (spelling Two c).fields) (record { plain = verb-plain c; short = omega arith }) (fields-part (spelling Two c).fields (sound_fields Two Two c ∙ h)))
 
 -- ---- descriptors that are ready
 
@@ -203,9 +206,9 @@ all-have (i ∷ is) ranges short =
     let b = and_true (is_sound i) (input_has_bytes i) r.0 in
     (record { sound = b.0; bytes = b.1; short = s.0 }, all-have is r.1 s.1)
 
-pub line-part : (i : Input) → HasLine i → IsPart line_limit (line_of i)
-line-part (inputs.Call c) h = behind most_of_call (codes "call ") (call_text c) refl (omega arith) (omega arith) (call-part c h.sound)
-line-part (inputs.Act (acts.Do c)) h = behind most_of_call (codes "act ") (call_text c) refl (omega arith) (omega arith) (call-part c h.sound)
+pub line-part : (i : Input) → HasLine i → IsPart line_limit (line_of Two i)
+line-part (inputs.Call c) h = behind most_of_call (codes "call ") (call_text Two c) refl (omega arith) (omega arith) (call-part c h.sound)
+line-part (inputs.Act (acts.Do c)) h = behind most_of_call (codes "act ") (call_text Two c) refl (omega arith) (omega arith) (call-part c h.sound)
 line-part (inputs.Act (acts.Ret value)) h = behind 20 (codes "ret ") (decimal value) refl (omega arith) (omega arith) (number-part value (omega (arith, ltb-true value (2 ^ 32) h.sound)))
 line-part (inputs.Clock now) h = behind 20 (codes "clock ") (decimal now) refl (omega arith) (omega arith) (number-part now (omega (arith, leb-true now (2 ^ 62) h.sound)))
 line-part (inputs.Ready wants) h =

@@ -6,6 +6,7 @@ use Rattle.tree_specs.specs.declared.object.Obj.{Obj}
 use Rattle.tree_specs.specs.declared.call.Call.{Call}
 use Rattle.tree_specs.specs.declared.call.Call.TheVariants as call
 use Rattle.tree_specs.specs.Tree.Pool.{Pool}
+use Rattle.tree_specs.specs.declared.schedule.Version.TheVariants.{One}
 use Rattle.tree_specs.specs.Texts.Grammar.{◌>>=◌, ◌or◌, words, numeral_of, call_of_words}
 use Rattle.tree_specs.specs.Calls.Spelling.Numeral.{Number32}
 use Rattle.tree_specs.proofs.Tree.Numbered.{by_test}
@@ -53,7 +54,7 @@ waiting-served verb make h (first ∷ micros ∷ []) = by_test (bytes_eq first v
 waiting-served verb make h _ = tt
 
 acting-served : (ws : List (List ℕ)) → IfServed (acting ws)
-acting-served ws = each (call_of_words ws)
+acting-served ws = each (call_of_words One ws)
   where
     each : (o : Option Call) → IfServed (o >>= (λ c. if is_served c then Some (order.Call c) else None))
     each None = tt

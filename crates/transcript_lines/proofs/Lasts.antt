@@ -1,6 +1,7 @@
 -- What stands at the end of a line: a name, bytes, and what a question says.
 use Rattle.std.proofs.Common.{◌≡◌, ℕ, Bool, true, false, List, [], Option, Some, None, refl, sym, ◌∙◌}
 use Rattle.std.specs.Option.{is_some}
+use Rattle.tree_specs.specs.declared.schedule.Version.TheVariants.{Two}
 use Rattle.tree_specs.specs.declared.question.Ask.{Ask}
 use Rattle.tree_specs.specs.Texts.Grammar.{◌leaving◌, name_of, octets_of, words, field, last_field}
 use Rattle.tree_specs.specs.Words.Names.{is_name}
@@ -23,16 +24,16 @@ taken_last true None taken e h = absurd cc
 taken_last false None taken e h = e
 taken_last false (Some x) taken e h = absurd cc
 
-name_some : (text : List ℕ) → is_some (name_of text) ≡ is_name text
+name_some : (text : List ℕ) → is_some (name_of Two text) ≡ is_name text
 unfolding name_of
 name_some text = by_test (is_name text) refl
   where
-    by_test : (b : Bool) → is_name text ≡ b → is_some (name_of text) ≡ is_name text
+    by_test : (b : Bool) → is_name text ≡ b → is_some (name_of Two text) ≡ is_name text
     by_test true e = rw e refl
     by_test false e = rw e refl
 
-pub name_last : (b : Bool) (text : List ℕ) → b ≡ is_name text → TakesLast b (last_field name_of (words text))
-name_last b text h = taken_last b (name_of text) (last_field name_of (words text)) (last_is name_field text) (h ∙ sym (name_some text))
+pub name_last : (b : Bool) (text : List ℕ) → b ≡ is_name text → TakesLast b (last_field (name_of Two) (words text))
+name_last b text h = taken_last b (name_of Two text) (last_field (name_of Two) (words text)) (last_is (name_field Two) text) (h ∙ sym (name_some text))
 
 pub octets_last : (b : Bool) (text : List ℕ) → b ≡ is_some (octets_of text) → TakesLast b (last_field octets_of (words text))
 octets_last b text h = taken_last b (octets_of text) (last_field octets_of (words text)) (last_is octets_field text) h

@@ -40,8 +40,8 @@ mod wants;
 mod watch;
 
 pub use bounds::{
-    LINE_LIMIT, LINES_LIMIT, NAME_LIMIT, OCTETS_LIMIT, OVERHEAD, ROW_LIMIT, SIZE_LIMIT, TIME_LIMIT,
-    WAIT_LIMIT,
+    LINE_LIMIT, LINES_LIMIT, NAME_LIMIT, OCTETS_LIMIT, OVERHEAD, ROW_LIMIT, SHORT_NAME_LIMIT,
+    SIZE_LIMIT, TIME_LIMIT, WAIT_LIMIT,
 };
 pub use call::Call;
 pub use checked::{Checked, Rule};

@@ -37,7 +37,7 @@ field_text (AnObject x) = decimal x.0
 field_text (ANumeral kind n) = decimal n
 field_text (AName name) = name
 field_text (SomeBytes bytes) = encode_lower bytes
-field_text TheContext = codes "0"
+field_text TheContext = decimal 0
 
 -- the verb and the fields, with single spaces between them
 unfoldable pub call_text : Version → Call → List ℕ
