@@ -13,16 +13,6 @@ use Rattle.service_rules.specs.Service.{service_story}
 use Rattle.line_pieces.specs.Cuts.{has_no_lf}
 use Rattle.schedule_replay.specs.declared.ran.Ran.{Ran}
 use Rattle.schedule_replay.specs.declared.ran.Ran.TheVariants as rans
-use Rattle.schedule_replay.specs.declared.stop.Stop.{Stop}
-use Rattle.schedule_replay.specs.declared.stop.Stop.TheVariants as errors
-
--- what an outcome is called outside
-abbrev pub ran_of : Result (Unit {0}) Stop → Ran
-ran_of (Ok done) = rans.Done
-ran_of (Err errors.Read) = rans.ReadFault
-ran_of (Err (errors.Refused line reason)) = rans.BadSchedule line reason
-ran_of (Err errors.Write) = rans.WriteFault
-ran_of (Err errors.Memory) = rans.Memory
 
 -- this text has been written, and there is one
 abbrev pub WritesText : Option (List ℕ) → Option (List ℕ) → Option (List ℕ) → Type 0

@@ -1,18 +1,24 @@
-//! Replaying a schedule into its transcript: bytes in, bytes out. What runs its lines is a `Machine`.
+//! Replaying a schedule into its transcript, and turning it into the second version: bytes in, bytes out. What plays its
+//! lines is a `Player`; that of a replay runs them by a `Machine`.
 #![tactic(auto)]
 
+mod conversion;
+mod convert;
 mod machine;
 mod over_host;
 mod over_station;
 mod play;
+mod player;
 mod ran;
+mod replay;
 mod session;
 mod stage;
 mod stop;
 mod telling;
 
+pub use convert::convert;
 pub use machine::Machine;
 pub use play::Play;
 pub use ran::Ran;
-pub use session::replay;
+pub use replay::replay;
 pub use stop::Stop;

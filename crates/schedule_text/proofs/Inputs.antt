@@ -12,7 +12,7 @@ use Rattle.tree_specs.specs.declared.schedule.Version.{Version}
 use Rattle.tree_specs.specs.Calls.Spelling.{Numeral}
 use Rattle.tree_specs.specs.Calls.Spelling.Numeral.{Number32, Positive32, Time, Length}
 use Rattle.tree_specs.specs.Texts.Grammar.{◌>>=◌, strip, words, call_of, numeral_of, octets_of, alone, ready_input_of, input_of}
-use Rattle.tree_specs.specs.Words.Ranges.{is_in, is_sound_call_in, is_sound_in}
+use Rattle.tree_specs.specs.Words.Ranges.{is_in, is_sound_call_in, is_sound_in, is_sound}
 use Rattle.tree_specs.specs.Words.Octets.{is_octets}
 use Rattle.tree_specs.specs.Words.Wants.{is_wants}
 use Rattle.tree_specs.specs.Texts.Text.{call_text, input_text, wants_text, newline}
@@ -97,7 +97,7 @@ front_spelled v {A} front read spell is_sound_value make spelled line_is sound l
     after_front found = rw found.line_is (by_cases found.rest (read found.rest) refl found.reads)
 
 -- the same, where the value is a number in a range
-numeral_spelled : (v : Version) → (front : List ℕ) (kind : Numeral) (make : ℕ → Input) → ((n : ℕ) → line_of v (make n) ≡ front ++ decimal n) → ((n : ℕ) → is_sound_in v (make n) ≡ is_in kind n) → (line : List ℕ) (i : Input) → (strip front line >>= (λ text. option_map make (numeral_of kind text))) ≡ Some i → IsLine v line i
+numeral_spelled : (v : Version) (front : List ℕ) (kind : Numeral) (make : ℕ → Input) → ((n : ℕ) → line_of v (make n) ≡ front ++ decimal n) → ((n : ℕ) → is_sound_in v (make n) ≡ is_in kind n) → (line : List ℕ) (i : Input) → (strip front line >>= (λ text. option_map make (numeral_of kind text))) ≡ Some i → IsLine v line i
 numeral_spelled v front kind make = front_spelled v front (numeral_of kind) decimal (is_in kind) make (numeral_field kind).spelled
 
 read_as : (found : Option (List ℕ)) → (found >>= ready_input_of) ≡ (found >>= λ text. option_map inputs.Ready (spaced_list_of (words text)))
@@ -105,7 +105,7 @@ read_as None = refl
 read_as (Some text) = ready_is text
 
 -- a line that is a word alone
-alone_spelled : (v : Version) → (input : Input) → is_sound_in v input ≡ true → (line : List ℕ) (i : Input) → (strip (line_of v input) line >>= alone input) ≡ Some i → IsLine v line i
+alone_spelled : (v : Version) (input : Input) → is_sound_in v input ≡ true → (line : List ℕ) (i : Input) → (strip (line_of v input) line >>= alone input) ≡ Some i → IsLine v line i
 alone_spelled v input sound line i e = after_word (has_front (line_of v input) (alone input) line i e)
   where
     by_rest : (rest : List ℕ) → line ≡ line_of v input ++ rest → alone input rest ≡ Some i → IsLine v line i
@@ -121,7 +121,7 @@ alone_spelled v input sound line i e = after_word (has_front (line_of v input) (
 sound_octets : (text bytes : List ℕ) → octets_of text ≡ Some bytes → (text ≡ encode_lower bytes) × (is_octets bytes ≡ true)
 sound_octets text bytes e = let spelled = octets_field.spelled text bytes e in (spelled.0, (and_true (is_octets bytes) (are_bytes bytes) spelled.1).0)
 
-line_spelled : (v : Version) → (line : List ℕ) (i : Input) → input_of v line ≡ Some i → IsLine v line i
+line_spelled : (v : Version) (line : List ℕ) (i : Input) → input_of v line ≡ Some i → IsLine v line i
 unfolding input_of
 line_spelled v line i e = (
     front_spelled v (codes "call ") (call_of v) (call_text v) (is_sound_call_in v) inputs.Call (calls.call_spelled v) (λ c. refl) (λ c. refl) line i
@@ -139,15 +139,25 @@ line_spelled v line i e = (
 
 -- ---- what reading a line answers
 
-pub read_is_sound : (v : Version) → (r : Result Input FormFault) (line : List ℕ) → Reads r (input_of v line) → IfOk r (λ i. is_sound_in v i ≡ true)
+pub read_is_sound : (v : Version) (r : Result Input FormFault) (line : List ℕ) → Reads r (input_of v line) → IfOk r (λ i. is_sound_in v i ≡ true)
 read_is_sound v (Ok i) line e = (line_spelled v line i e).is_sound
 read_is_sound v (Err fault) line e = tt
 
-pub read_is_spelled : (v : Version) → (r : Result Input FormFault) (line : List ℕ) → Reads r (input_of v line) → IfOk r (λ i. line ++ newline ≡ input_text v i)
+sound_anyway : (v : Version) (i : Input) → is_sound_in v i ≡ true → is_sound i ≡ true
+sound_anyway v (inputs.Call c) h = calls.sound_anyway v c h
+sound_anyway v (inputs.Act (acts.Do c)) h = calls.sound_anyway v c h
+sound_anyway v (inputs.Act (acts.Ret value)) h = h
+sound_anyway v _ h = h
+
+pub read_can_be_given : (v : Version) (r : Result Input FormFault) → IfOk r (λ i. is_sound_in v i ≡ true) → IfOk r (λ i. is_sound i ≡ true)
+read_can_be_given v (Ok i) h = sound_anyway v i h
+read_can_be_given v (Err fault) h = tt
+
+pub read_is_spelled : (v : Version) (r : Result Input FormFault) (line : List ℕ) → Reads r (input_of v line) → IfOk r (λ i. line ++ newline ≡ input_text v i)
 read_is_spelled v (Ok i) line e = ap (λ l. l ++ newline) (line_spelled v line i e).line_is ∙ sym (input_text-line v i)
 read_is_spelled v (Err fault) line e = tt
 
-pub unread_is_none : (v : Version) → (r : Result Input FormFault) (line : List ℕ) → Reads r (input_of v line) → r ≡ Err NoForm → (i : Input) → is_sound_in v i ≡ true → input_has_bytes i ≡ true → line ++ newline ≢ input_text v i
+pub unread_is_none : (v : Version) (r : Result Input FormFault) (line : List ℕ) → Reads r (input_of v line) → r ≡ Err NoForm → (i : Input) → is_sound_in v i ≡ true → input_has_bytes i ≡ true → line ++ newline ≢ input_text v i
 unread_is_none v (Ok i) line e was = absurd cc
 unread_is_none v (Err Memory) line e was = absurd cc
 unread_is_none v (Err NoForm) line e was = λ i h has same. none_some i (sym e ∙ ap (input_of v) (append_cancel_right line (line_of v i) newline (same ∙ input_text-line v i)) ∙ input_again v i h has)

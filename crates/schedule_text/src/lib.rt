@@ -5,6 +5,7 @@
 mod event;
 mod front;
 mod header;
+mod line_converter;
 mod line_reader;
 mod line_writer;
 mod moment;
@@ -16,6 +17,7 @@ mod tests;
 
 pub use event::write_event;
 pub use header::{header_line, read_header};
+pub use line_converter::convert_line;
 pub use line_reader::read_line;
 pub use line_writer::write_input;
 pub use question::{write_answered, write_ask, write_end};

@@ -2,7 +2,7 @@
 ghost use Rattle.std.specs.Prelude.{◌≡◌, ◌≢◌, ◌++◌, IfOk, IsTrue, Err};
 ghost use Rattle.tree_specs.specs.declared.question.Input.{Input as InputData};
 ghost use Rattle.tree_specs.specs.Texts.Grammar.{alone, input_of};
-ghost use Rattle.tree_specs.specs.Words.Ranges.{is_sound_in};
+ghost use Rattle.tree_specs.specs.Words.Ranges.{is_sound_in, is_sound};
 ghost use Rattle.tree_specs.specs.Texts.Text.{input_text, newline};
 ghost use Rattle.text_forms.specs.Reads.{Reads};
 ghost use Rattle.schedule_text.specs.Heard.{heard_input_of, input_has_bytes};
@@ -80,6 +80,8 @@ fn input_value(alloc: Global, line: &[u8], version: Version) -> Result<Input, Fo
 pub fn read_line(alloc: Global, line: &[u8], version: Version) -> Result<Input, FormFault>
     ensures value { Reads result (input_of version line.now) }
     ensures sound { IfOk result (λ i. IsTrue (is_sound_in version i)) }
+    // What is sound in a version is sound in the newest, and so can be given to a host.
+    ensures given { IfOk result (λ i. IsTrue (is_sound i)) }
     // An input has one line in a version, and what is none is the line of no input.
     ensures spelled { IfOk result (λ i. line.now ++ newline ≡ input_text version i) }
     ensures none { result ≡ Err FormFault.NoForm → (i : InputData) → IsTrue (is_sound_in version i) → IsTrue (input_has_bytes i) → line.now ++ newline ≢ input_text version i }

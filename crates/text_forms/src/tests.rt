@@ -7,7 +7,7 @@ use std::alloc::Global;
 use std::fmt::InlineText;
 use std::process::Abort;
 use std::test::Fail;
-use tree_specs::{Call, Name, Owner, ReportRow, RowKind};
+use tree_specs::{Call, Name, Owner, ReportRow, RowKind, Version};
 
 mod descriptors;
 mod queues;
@@ -21,7 +21,7 @@ fn writes(rt: &impl Abort, alloc: Global, call: &Call, want: &[u8]) -> Result<()
     write_call(call, &mut out)?;
     assert_eq!(rt; out.as_slice(), want);
     out.clear();
-    write_call(&read_call(alloc, want)?, &mut out)?;
+    write_call(&read_call(alloc, want, Version::Two)?, &mut out)?;
     assert_eq!(rt; out.as_slice(), want);
     Ok(())
 }
@@ -39,16 +39,16 @@ fn writes_each(rt: &impl Abort, alloc: Global, cases: &[(Call, &[u8])]) -> Resul
 // What is read of each line is written as this line.
 fn writes_again(rt: &impl Abort, alloc: Global, lines: &str) -> Result<(), Fail> {
     for line in lines.lines() {
-        let call = read_call(alloc, line.as_bytes())?;
+        let call = read_call(alloc, line.as_bytes(), Version::Two)?;
         writes(rt, alloc, &call, line.as_bytes())?;
     }
     Ok(())
 }
 
-// No line is a call.
-fn reads_none(rt: &impl Abort, alloc: Global, lines: &str) {
+// No line is a call of this version.
+fn reads_none(rt: &impl Abort, alloc: Global, lines: &str, version: Version) {
     for text in lines.lines() {
-        let call = read_call(alloc, text.as_bytes());
+        let call = read_call(alloc, text.as_bytes(), version);
         assert!(rt; matches!(call, Err(FormFault::NoForm)), "at {text:?}");
     }
 }
@@ -145,19 +145,19 @@ fn writes_after_what_is_there(rt: HostRuntime) -> Result<(), Fail> {
 
 #[test]
 fn reads_names(rt: HostRuntime) -> Result<(), Fail> {
-    let longest = [b'~'; 255];
-    let name = read_name(rt.alloc(), &longest)?;
-    assert_eq!(rt; name.as_slice(), longest.as_slice());
-    for text in [
-        [b'~'; 256].as_slice(),
-        b"".as_slice(),
-        b"a b".as_slice(),
-        b"a\x7f".as_slice(),
-    ] {
-        assert!(rt;
-            matches!(read_name(rt.alloc(), text), Err(FormFault::NoForm)),
-            "at {text:?}"
-        );
+    let too_long = [b'~'; 1_024];
+    for (version, longest) in [(Version::One, 255), (Version::Two, 1_023)] {
+        let name = read_name(rt.alloc(), &too_long[..longest], version)?;
+        assert_eq!(rt; name.as_slice().len(), longest);
+        for text in [
+            &too_long[..longest + 1],
+            b"".as_slice(),
+            b"a b".as_slice(),
+            b"a\x7f".as_slice(),
+        ] {
+            let name = read_name(rt.alloc(), text, version);
+            assert!(rt; matches!(name, Err(FormFault::NoForm)), "at {text:?}");
+        }
     }
     Ok(())
 }
@@ -167,7 +167,7 @@ fn writes_the_root_as_zero(rt: HostRuntime) -> Result<(), Fail> {
     let new = Call::New {
         owner: Owner::Root,
         size: 0,
-        name: read_name(rt.alloc(), b"top")?,
+        name: read_name(rt.alloc(), b"top", Version::Two)?,
     };
     writes(&rt, rt.alloc(), &new, b"new 0 0 top")
 }
@@ -196,9 +196,9 @@ count 0
 count 7
 report 0
 report 7
-pending
+pending 0
 now
-turn
+turn 0
 ";
 
 #[test]
@@ -257,8 +257,33 @@ fn reads_no_call(rt: HostRuntime) {
         requests::NO_CALLS,
         queues::NO_CALLS,
     ] {
-        reads_none(&rt, rt.alloc(), lines);
+        reads_none(&rt, rt.alloc(), lines, Version::Two);
     }
+}
+
+// Calls as version 1 has them, and what is written behind each in version 2.
+const WITHOUT_CONTEXT: &str = "\
+pending
+turn
+schedule 9 16 42
+timer 7 30 16 42
+fd 7 5 1 16 42
+defer 9
+post 9
+endtime 9 30
+enqueue 9 3 16 42
+";
+
+#[test]
+fn a_context_is_said_from_version_2_on(rt: HostRuntime) -> Result<(), Fail> {
+    for line in WITHOUT_CONTEXT.lines() {
+        let mut out = Vec::new(rt.alloc());
+        write_call(&read_call(rt.alloc(), line.as_bytes(), Version::One)?, &mut out)?;
+        assert!(rt; out.ends_with(b" 0"), "at {line:?}");
+        assert_eq!(rt; &out[..out.len() - 2], line.as_bytes());
+        reads_none(&rt, rt.alloc(), line, Version::Two);
+    }
+    Ok(())
 }
 
 #[test]
@@ -307,7 +332,7 @@ fn writes_each_kind_of_row(rt: HostRuntime) -> Result<(), Fail> {
     ];
     for (kind, want) in cases {
         let mut out = Vec::new(rt.alloc());
-        let rows = [row(kind, read_name(rt.alloc(), b"a-b")?)];
+        let rows = [row(kind, read_name(rt.alloc(), b"a-b", Version::Two)?)];
         write_report_rows(&rows, &mut out)?;
         assert_eq!(rt; out.as_slice(), want);
     }
@@ -323,7 +348,7 @@ fn writes_the_rows_of_a_report(rt: HostRuntime) -> Result<(), Fail> {
         size: 268_435_455,
         refs: 4_294_967_295,
         target: 18_446_744_073_709_551_614,
-        name: read_name(rt.alloc(), b"~")?,
+        name: read_name(rt.alloc(), b"~", Version::Two)?,
     };
     let rows = [ReportRow::root(), largest];
     let mut out = Vec::new(rt.alloc());

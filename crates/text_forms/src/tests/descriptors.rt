@@ -6,8 +6,8 @@ use tree_specs::{Call, Obj, Octets, Owner};
 
 // Calls on descriptors, as they are written.
 pub(super) const CALLS: &str = "\
-fd 0 0 0 1 0
-fd 18446744073709551615 4294967295 3 4294967295 18446744073709551615
+fd 0 0 0 1 0 0
+fd 18446744073709551615 4294967295 3 4294967295 18446744073709551615 0
 flags 9 0
 flags 9 3
 getflags 9
@@ -22,10 +22,12 @@ write 5 00
 // Lines that are no call on a descriptor.
 pub(super) const NO_CALLS: &str = "\
 fd 0 5 1 16
-fd 0 5 1 16 0 0
-fd 0 5 4 16 0
-fd 0 5 1 0 0
-fd 0 4294967296 1 16 0
+fd 0 5 1 16 0
+fd 0 5 1 16 0 1
+fd 0 5 1 16 0 0 0
+fd 0 5 4 16 0 0
+fd 0 5 1 0 0 0
+fd 0 4294967296 1 16 0 0
 flags 9
 flags 9 4
 flags 9 03
@@ -118,7 +120,7 @@ fn writes_calls(rt: HostRuntime) -> Result<(), Fail> {
         flags: 2,
     };
     let cases = [
-        (fd, b"fd 7 5 1 16 42".as_slice()),
+        (fd, b"fd 7 5 1 16 42 0".as_slice()),
         (flags, b"flags 9 2".as_slice()),
         (Call::Getflags { x: Obj(9) }, b"getflags 9".as_slice()),
         (Call::Autoclose { x: Obj(9) }, b"autoclose 9".as_slice()),

@@ -1,7 +1,7 @@
 use super::writes_each;
 use crate::read_name;
 use std::test::Fail;
-use tree_specs::{Call, Obj, Owner};
+use tree_specs::{Call, Obj, Owner, Version};
 
 // The queue that the calls are about.
 const QUEUE: Obj = Obj(9);
@@ -10,8 +10,8 @@ const QUEUE: Obj = Obj(9);
 pub(super) const CALLS: &str = "\
 queue 0 ~
 queue 18446744073709551615 a-b
-enqueue 9 3 1 0
-enqueue 18446744073709551615 3 4294967295 18446744073709551615
+enqueue 9 3 1 0 0
+enqueue 18446744073709551615 3 4294967295 18446744073709551615 0
 start 9
 stop 9
 length 9
@@ -25,10 +25,12 @@ queue a-b
 queue 7 10 a-b
 queue 07 a-b
 enqueue 9 3 16
-enqueue 9 3 0 42
-enqueue 9 3 16 42 0
-enqueue 9 3 4294967296 42
-enqueue 9 03 16 42
+enqueue 9 3 0 42 0
+enqueue 9 3 16 42
+enqueue 9 3 16 42 1
+enqueue 9 3 16 42 0 0
+enqueue 9 3 4294967296 42 0
+enqueue 9 03 16 42 0
 start
 start 9 1
 start x
@@ -48,7 +50,7 @@ start 9\x20
 fn writes_each_call(rt: HostRuntime) -> Result<(), Fail> {
     let make = Call::Queue {
         owner: Owner::Of(Obj(7)),
-        name: read_name(rt.alloc(), b"a-b")?,
+        name: read_name(rt.alloc(), b"a-b", Version::Two)?,
     };
     let enqueue = Call::Enqueue {
         queue: QUEUE,
@@ -58,7 +60,7 @@ fn writes_each_call(rt: HostRuntime) -> Result<(), Fail> {
     };
     let cases = [
         (make, b"queue 7 a-b".as_slice()),
-        (enqueue, b"enqueue 9 3 16 42".as_slice()),
+        (enqueue, b"enqueue 9 3 16 42 0".as_slice()),
         (Call::Start { queue: QUEUE }, b"start 9".as_slice()),
         (Call::Stop { queue: QUEUE }, b"stop 9".as_slice()),
         (Call::Length { queue: QUEUE }, b"length 9".as_slice()),
