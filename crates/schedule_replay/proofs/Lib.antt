@@ -8,3 +8,5 @@ pub mod WholeLaws
 pub mod StageLaws
 pub mod SessionLaws
 pub mod StoryLaws
+pub mod ReplayLaws
+pub mod ConvertLaws

@@ -1,13 +1,15 @@
 -- What a replay of a whole schedule writes and answers.
 use Rattle.std.specs.Prelude.{◌≡◌, ◌⊎◌, if◌then◌else◌, ℕ, true, List, [], ◌∷◌, ◌++◌, Option, Some, None, Result, Ok, Err}
 use Rattle.std.specs.Io.KnownBytes.{Appends, Consumes, IsAtEnd}
+use Rattle.std.specs.Option.{option_map}
 use Rattle.tree_specs.specs.declared.question.Ask.{Ask}
 use Rattle.tree_specs.specs.declared.schedule.Reason.{Reason}
 use Rattle.tree_specs.specs.Texts.Text.{end_text}
+use Rattle.tree_specs.specs.declared.schedule.Header.{Header}
 use Rattle.tree_specs.specs.declared.schedule.Mode.{Mode}
 use Rattle.tree_specs.specs.declared.schedule.Mode.TheVariants.{Service}
 use Rattle.tree_specs.specs.Texts.Lines.{Line, lines}
-use Rattle.tree_specs.specs.Texts.Schedule.{mode_of}
+use Rattle.tree_specs.specs.Texts.Schedule.{header_of}
 use Rattle.service_rules.specs.Schedules.{judge, inputs_of, transcript_of}
 use Rattle.service_rules.specs.Service.{service_story}
 use Rattle.line_pieces.specs.Cuts.{has_no_lf}
@@ -31,9 +33,13 @@ pub record IsBad (bytes : List ℕ) (line : ℕ) (reason : Reason) (held now : O
   pub text : WritesText (transcript_of bytes) held now
 
 -- what the first line says, where it is a whole one
+abbrev pub header_in : List Line → Option Header
+header_in [] = None
+header_in (first ∷ rest) = if first.ended then header_of first.text else None
+
+-- what runs the lines after it
 abbrev pub mode_in : List Line → Option Mode
-mode_in [] = None
-mode_in (first ∷ rest) = if first.ended then mode_of first.text else None
+mode_in ls = option_map (λ h. h.mode) (header_in ls)
 
 -- The service would give more answers than it may, so there is no transcript.
 abbrev pub RunsOut : List ℕ → Type 0

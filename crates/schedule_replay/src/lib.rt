@@ -4,6 +4,7 @@
 
 mod conversion;
 mod convert;
+mod header;
 mod machine;
 mod over_host;
 mod over_station;

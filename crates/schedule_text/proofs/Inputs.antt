@@ -75,14 +75,15 @@ input_back v i h has line e = ap (input_of v) (append_cancel_right line (line_of
 
 -- ---- from a line to an input and back
 
--- the input is sound, and this is its line
-record IsLine (v : Version) (line : List ℕ) (i : Input) : Type 0 where
-  line_is : line ≡ line_of v i
-  is_sound : is_sound_in v i ≡ true
+-- the input is sound, its bytes are bytes, and this is its line
+pub record IsLine (v : Version) (line : List ℕ) (i : Input) : Type 0 where
+  pub line_is : line ≡ line_of v i
+  pub is_sound : is_sound_in v i ≡ true
+  pub has : input_has_bytes i ≡ true
 
 -- a line of this front, and then the spelling of a value
-front_spelled : (v : Version) → {A : Type 0} (front : List ℕ) (read : List ℕ → Option A) (spell : A → List ℕ) (is_sound_value : A → Bool) (make : A → Input) → ((text : List ℕ) (x : A) → read text ≡ Some x → (text ≡ spell x) × (is_sound_value x ≡ true)) → ((x : A) → line_of v (make x) ≡ front ++ spell x) → ((x : A) → is_sound_in v (make x) ≡ is_sound_value x) → (line : List ℕ) (i : Input) → (strip front line >>= (λ text. option_map make (read text))) ≡ Some i → IsLine v line i
-front_spelled v {A} front read spell is_sound_value make spelled line_is sound line i e = after_front (has_front front (λ text. option_map make (read text)) line i e)
+front_spelled : (v : Version) {A : Type 0} (front : List ℕ) (read : List ℕ → Option A) (spell : A → List ℕ) (is_sound_value : A → Bool) (make : A → Input) → ((text : List ℕ) (x : A) → read text ≡ Some x → (text ≡ spell x) × (is_sound_value x ≡ true)) → ((text : List ℕ) (x : A) → read text ≡ Some x → input_has_bytes (make x) ≡ true) → ((x : A) → line_of v (make x) ≡ front ++ spell x) → ((x : A) → is_sound_in v (make x) ≡ is_sound_value x) → (line : List ℕ) (i : Input) → (strip front line >>= (λ text. option_map make (read text))) ≡ Some i → IsLine v line i
+front_spelled v {A} front read spell is_sound_value make spelled has line_is sound line i e = after_front (has_front front (λ text. option_map make (read text)) line i e)
   where
     by_cases : (text : List ℕ) (found : Option A) → read text ≡ found → option_map make found ≡ Some i → IsLine v (front ++ text) i
     by_cases text None was f = absurd cc
@@ -91,27 +92,28 @@ front_spelled v {A} front read spell is_sound_value make spelled line_is sound l
         record {
           line_is = ap (λ l. front ++ l) (spelled text x was).0 ∙ sym (line_is x) ∙ ap (line_of v) same;
           is_sound = sym (ap (is_sound_in v) same) ∙ sound x ∙ (spelled text x was).1;
+          has = sym (ap input_has_bytes same) ∙ has text x was;
         }
 
     after_front : HasFront front (λ text. option_map make (read text)) line i → IsLine v line i
     after_front found = rw found.line_is (by_cases found.rest (read found.rest) refl found.reads)
 
 -- the same, where the value is a number in a range
-numeral_spelled : (v : Version) (front : List ℕ) (kind : Numeral) (make : ℕ → Input) → ((n : ℕ) → line_of v (make n) ≡ front ++ decimal n) → ((n : ℕ) → is_sound_in v (make n) ≡ is_in kind n) → (line : List ℕ) (i : Input) → (strip front line >>= (λ text. option_map make (numeral_of kind text))) ≡ Some i → IsLine v line i
-numeral_spelled v front kind make = front_spelled v front (numeral_of kind) decimal (is_in kind) make (numeral_field kind).spelled
+numeral_spelled : (v : Version) (front : List ℕ) (kind : Numeral) (make : ℕ → Input) → ((n : ℕ) → input_has_bytes (make n) ≡ true) → ((n : ℕ) → line_of v (make n) ≡ front ++ decimal n) → ((n : ℕ) → is_sound_in v (make n) ≡ is_in kind n) → (line : List ℕ) (i : Input) → (strip front line >>= (λ text. option_map make (numeral_of kind text))) ≡ Some i → IsLine v line i
+numeral_spelled v front kind make has = front_spelled v front (numeral_of kind) decimal (is_in kind) make (numeral_field kind).spelled (λ text n was. has n)
 
 read_as : (found : Option (List ℕ)) → (found >>= ready_input_of) ≡ (found >>= λ text. option_map inputs.Ready (spaced_list_of (words text)))
 read_as None = refl
 read_as (Some text) = ready_is text
 
 -- a line that is a word alone
-alone_spelled : (v : Version) (input : Input) → is_sound_in v input ≡ true → (line : List ℕ) (i : Input) → (strip (line_of v input) line >>= alone input) ≡ Some i → IsLine v line i
-alone_spelled v input sound line i e = after_word (has_front (line_of v input) (alone input) line i e)
+alone_spelled : (v : Version) (input : Input) → is_sound_in v input ≡ true → input_has_bytes input ≡ true → (line : List ℕ) (i : Input) → (strip (line_of v input) line >>= alone input) ≡ Some i → IsLine v line i
+alone_spelled v input sound has line i e = after_word (has_front (line_of v input) (alone input) line i e)
   where
     by_rest : (rest : List ℕ) → line ≡ line_of v input ++ rest → alone input rest ≡ Some i → IsLine v line i
     by_rest [] is f =
         let same : input ≡ i = cc in
-        record { line_is = is ∙ append-nil (line_of v input) ∙ ap (line_of v) same; is_sound = sym (ap (is_sound_in v) same) ∙ sound }
+        record { line_is = is ∙ append-nil (line_of v input) ∙ ap (line_of v) same; is_sound = sym (ap (is_sound_in v) same) ∙ sound; has = sym (ap input_has_bytes same) ∙ has }
     by_rest (b ∷ bs) is f = absurd cc
 
     after_word : HasFront (line_of v input) (alone input) line i → IsLine v line i
@@ -121,20 +123,23 @@ alone_spelled v input sound line i e = after_word (has_front (line_of v input) (
 sound_octets : (text bytes : List ℕ) → octets_of text ≡ Some bytes → (text ≡ encode_lower bytes) × (is_octets bytes ≡ true)
 sound_octets text bytes e = let spelled = octets_field.spelled text bytes e in (spelled.0, (and_true (is_octets bytes) (are_bytes bytes) spelled.1).0)
 
-line_spelled : (v : Version) (line : List ℕ) (i : Input) → input_of v line ≡ Some i → IsLine v line i
+octets_have_bytes : (text bytes : List ℕ) → octets_of text ≡ Some bytes → are_bytes bytes ≡ true
+octets_have_bytes text bytes e = (and_true (is_octets bytes) (are_bytes bytes) (octets_field.spelled text bytes e).1).1
+
+pub line_spelled : (v : Version) (line : List ℕ) (i : Input) → input_of v line ≡ Some i → IsLine v line i
 unfolding input_of
 line_spelled v line i e = (
-    front_spelled v (codes "call ") (call_of v) (call_text v) (is_sound_call_in v) inputs.Call (calls.call_spelled v) (λ c. refl) (λ c. refl) line i
-    either front_spelled v (codes "act ") (call_of v) (call_text v) (is_sound_call_in v) (λ c. inputs.Act (acts.Do c)) (calls.call_spelled v) (λ c. refl) (λ c. refl) line i
-    either numeral_spelled v (codes "ret ") Number32 (λ value. inputs.Act (acts.Ret value)) (λ value. refl) (λ value. refl) line i
-    either numeral_spelled v (codes "clock ") Time inputs.Clock (λ now. refl) (λ now. refl) line i
-    either (λ r. front_spelled v (codes "ready") (λ text. spaced_list_of (words text)) wants_text is_wants inputs.Ready list_spelled (λ wants. refl) (λ wants. refl) line i (sym (read_as (strip (codes "ready") line)) ∙ r))
-    either numeral_spelled v (codes "took ") Positive32 inputs.Took (λ fd. refl) (λ fd. refl) line i
-    either alone_spelled v inputs.Again refl line i
-    either alone_spelled v inputs.Fault refl line i
-    either front_spelled v (codes "got ") octets_of encode_lower is_octets inputs.Got sound_octets (λ bytes. refl) (λ bytes. refl) line i
-    either alone_spelled v inputs.End refl line i
-    either numeral_spelled v (codes "wrote ") Length inputs.Wrote (λ n. refl) (λ n. refl) line i)
+    front_spelled v (codes "call ") (call_of v) (call_text v) (is_sound_call_in v) inputs.Call (calls.call_spelled v) (calls.call_has_bytes v) (λ c. refl) (λ c. refl) line i
+    either front_spelled v (codes "act ") (call_of v) (call_text v) (is_sound_call_in v) (λ c. inputs.Act (acts.Do c)) (calls.call_spelled v) (calls.call_has_bytes v) (λ c. refl) (λ c. refl) line i
+    either numeral_spelled v (codes "ret ") Number32 (λ value. inputs.Act (acts.Ret value)) (λ value. refl) (λ value. refl) (λ value. refl) line i
+    either numeral_spelled v (codes "clock ") Time inputs.Clock (λ now. refl) (λ now. refl) (λ now. refl) line i
+    either (λ r. front_spelled v (codes "ready") (λ text. spaced_list_of (words text)) wants_text is_wants inputs.Ready list_spelled (λ text wants was. refl) (λ wants. refl) (λ wants. refl) line i (sym (read_as (strip (codes "ready") line)) ∙ r))
+    either numeral_spelled v (codes "took ") Positive32 inputs.Took (λ fd. refl) (λ fd. refl) (λ fd. refl) line i
+    either alone_spelled v inputs.Again refl refl line i
+    either alone_spelled v inputs.Fault refl refl line i
+    either front_spelled v (codes "got ") octets_of encode_lower is_octets inputs.Got sound_octets octets_have_bytes (λ bytes. refl) (λ bytes. refl) line i
+    either alone_spelled v inputs.End refl refl line i
+    either numeral_spelled v (codes "wrote ") Length inputs.Wrote (λ n. refl) (λ n. refl) (λ n. refl) line i)
     e
 
 -- ---- what reading a line answers
@@ -143,7 +148,7 @@ pub read_is_sound : (v : Version) (r : Result Input FormFault) (line : List ℕ)
 read_is_sound v (Ok i) line e = (line_spelled v line i e).is_sound
 read_is_sound v (Err fault) line e = tt
 
-sound_anyway : (v : Version) (i : Input) → is_sound_in v i ≡ true → is_sound i ≡ true
+pub sound_anyway : (v : Version) (i : Input) → is_sound_in v i ≡ true → is_sound i ≡ true
 sound_anyway v (inputs.Call c) h = calls.sound_anyway v c h
 sound_anyway v (inputs.Act (acts.Do c)) h = calls.sound_anyway v c h
 sound_anyway v (inputs.Act (acts.Ret value)) h = h

@@ -1,14 +1,16 @@
 //! The first line of a schedule, which says the grammar of the lines that follow and what runs them.
-ghost use Rattle.std.specs.Prelude.{◌≡◌, ◌≢◌, Err};
+ghost use Rattle.std.specs.Prelude.{◌≡◌, ◌≢◌, ◌++◌, Err};
 ghost use Rattle.std.specs.Str.{bytes_eq};
 ghost use Rattle.tree_specs.specs.Texts.Schedule.{header_of, header_text, says};
+ghost use Rattle.tree_specs.specs.Texts.Text.{newline};
+ghost use Rattle.tree_specs.specs.Texts.Written.{Writes};
 ghost use Rattle.text_forms.specs.Reads.{Reads};
 
 use text_forms::FormFault;
-use tree_specs::{Header, Mode, Version};
+use tree_specs::{Header, Memory, Mode, Version};
 
 /// The first line of a schedule, without its LF.
-pub fn header_line(header: Header) -> &'static [u8]
+fn header_line(header: Header) -> &'static [u8]
     ensures { result.now ≡ header_text header.version header.mode }
 {
     match (header.version, header.mode) {
@@ -31,6 +33,15 @@ fn said(version: Version, mode: Mode) -> Header
     ensures { result ≡ says version mode }
 {
     Header { version, mode }
+}
+
+/// Appends the first line of a schedule, with its LF. When memory runs out, a prefix of it was appended.
+pub fn write_header(header: Header, out: &mut Vec<u8>) -> Result<(), Memory>
+    ensures { Writes out.old.items out.new.items result (header_text header.version header.mode ++ newline) }
+{
+    out.extend_from_slice(header_line(header))?;
+    out.push(b'\n')?;
+    Ok(())
 }
 
 /// What the first line of a schedule says of the lines that follow, the line without its LF: `tv schedule 1 pool` or

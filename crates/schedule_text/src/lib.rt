@@ -16,7 +16,7 @@ mod reply;
 mod tests;
 
 pub use event::write_event;
-pub use header::{header_line, read_header};
+pub use header::{read_header, write_header};
 pub use line_converter::convert_line;
 pub use line_reader::read_line;
 pub use line_writer::write_input;

@@ -12,7 +12,7 @@ use Rattle.tree_specs.specs.Texts.Lines.{Line, lines, lines_of_parts, is_over_li
 use Rattle.tree_specs.specs.Texts.Runners.{Course, Judged, once_given, fitting, ok_unless, why_not, line_input, judged_from, judged_lines}
 use Rattle.tree_specs.specs.Texts.Schedule.{header_of, header_text, runner_by}
 use Rattle.tree_specs.specs.Texts.Text.{input_text, newline}
-use Rattle.line_pieces.specs.Cuts.{ended_line}
+use Rattle.line_pieces.specs.Cuts.{ended_line, has_no_lf}
 use Rattle.line_pieces.proofs.LineLaws.{lines_ended}
 use Rattle.schedule_text.proofs.Inputs.{line_of, input_text-line, input_again}
 use Rattle.service_rules.specs.Schedules.{judged, runner_of, service_runner, strays_behind}
@@ -25,27 +25,35 @@ use Rattle.service_records.proofs.Lines.{AllHaveLines, HasLine, all-have, line-p
 abbrev record_line : List ℕ
 record_line = header_text Two Service
 
-abbrev line_in : Input → Line
+abbrev pub line_in : Input → Line
 line_in i = ended_line (line_of Two i)
 
 input-line : (i : Input) (rest : List ℕ) → input_text Two i ++ rest ≡ line_of Two i ++ 10 ∷ rest
 input-line i rest = ap (λ (l : List ℕ). l ++ rest) (input_text-line Two i) ∙ append_assoc (line_of Two i) newline rest
 
-lines-of-inputs : (is : List Input) → AllHaveLines is → lines (flat_map (input_text Two) is) ≡ map line_in is
+abbrev pub ArePlain : List Input → Type 0
+ArePlain [] = Unit {0}
+ArePlain (i ∷ is) = (has_no_lf (line_of Two i) ≡ true) × ArePlain is
+
+plain-lines : (is : List Input) → AllHaveLines is → ArePlain is
+plain-lines [] h = tt
+plain-lines (i ∷ is) h = ((line-part i h.0).plain, plain-lines is h.1)
+
+pub lines-of-inputs : (is : List Input) → ArePlain is → lines (flat_map (input_text Two) is) ≡ map line_in is
 unfolding lines lines_of_parts
 lines-of-inputs [] h = refl
 lines-of-inputs (i ∷ is) h =
-    ap lines (input-line i (flat_map (input_text Two) is)) ∙ lines_ended (line_of Two i) (flat_map (input_text Two) is) (line-part i h.0).plain
+    ap lines (input-line i (flat_map (input_text Two) is)) ∙ lines_ended (line_of Two i) (flat_map (input_text Two) is) h.0
     ∙ ap (λ (ls : List Line). line_in i ∷ ls) (lines-of-inputs is h.1)
 
 record-lines : (is : List Input) → AllHaveLines is → lines (record_text is) ≡ ended_line record_line ∷ map line_in is
 record-lines is h =
     ap lines (append_assoc record_line newline (flat_map (input_text Two) is)) ∙ lines_ended record_line (flat_map (input_text Two) is) refl
-    ∙ ap (λ (ls : List Line). ended_line record_line ∷ ls) (lines-of-inputs is h)
+    ∙ ap (λ (ls : List Line). ended_line record_line ∷ ls) (lines-of-inputs is (plain-lines is h))
 
 -- ---- what each line gives
 
-not-over : (n : ℕ) (line : Line) → n ≤ lines_limit → length line.text ≤ line_limit → is_over_limit n line ≡ false
+pub not-over : (n : ℕ) (line : Line) → n ≤ lines_limit → length line.text ≤ line_limit → is_over_limit n line ≡ false
 not-over n line low short = rw (le-ltb line_limit (length line.text) short, le-ltb lines_limit n low) refl
 
 -- whatever tells over the answers

@@ -174,7 +174,7 @@ want-part w h =
     (record { plain = refl; short = omega arith }))
     (decimal-part 1 w.flags (omega arith) (omega (arith, few)) (omega (arith, few)))
 
-wants-part : (ws : List Want) → list_all is_want ws ≡ true → IsPart (13 * length ws) (wants_text ws)
+pub wants-part : (ws : List Want) → list_all is_want ws ≡ true → IsPart (13 * length ws) (wants_text ws)
 wants-part [] h = record { plain = refl; short = omega arith }
 wants-part (w ∷ ws) h =
     let both = and_true (is_want w) (list_all is_want ws) h in
@@ -218,3 +218,14 @@ line-part (inputs.Took fd) h = behind 20 (codes "took ") (decimal fd) refl (omeg
 line-part (inputs.Got bytes) h = behind 131072 (codes "got ") (encode_lower bytes) refl (omega arith) (omega arith) (octets-part bytes h.sound)
 line-part (inputs.Wrote n) h = behind 20 (codes "wrote ") (decimal n) refl (omega arith) (omega arith) (number-part n (omega (arith, leb-true n 65536 (and_true (leb 1 n) (leb n 65536) h.sound).1)))
 line-part _ h = record { plain = refl; short = omega arith }
+
+-- it has no LF, however many descriptors it names
+pub line-plain : (i : Input) → is_sound i ≡ true → input_has_bytes i ≡ true → has_no_lf (line_of Two i) ≡ true
+line-plain (inputs.Ready wants) sound has = plain_append (codes "ready") (wants_text wants) refl (wants-part wants (and_true (list_all is_want wants) (rises wants) sound).0).plain
+line-plain (inputs.Call c) sound has = (line-part (inputs.Call c) (record { sound = sound; bytes = has; short = refl })).plain
+line-plain (inputs.Act act) sound has = (line-part (inputs.Act act) (record { sound = sound; bytes = has; short = refl })).plain
+line-plain (inputs.Clock now) sound has = (line-part (inputs.Clock now) (record { sound = sound; bytes = has; short = refl })).plain
+line-plain (inputs.Took fd) sound has = (line-part (inputs.Took fd) (record { sound = sound; bytes = has; short = refl })).plain
+line-plain (inputs.Got bytes) sound has = (line-part (inputs.Got bytes) (record { sound = sound; bytes = has; short = refl })).plain
+line-plain (inputs.Wrote n) sound has = (line-part (inputs.Wrote n) (record { sound = sound; bytes = has; short = refl })).plain
+line-plain _ sound has = refl

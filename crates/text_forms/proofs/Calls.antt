@@ -129,6 +129,14 @@ all_sound_from : (v : Version) (fs : List Field) → all_fit v fs ≡ true → a
 all_sound_from v [] h = refl
 all_sound_from v (f ∷ fs) h = let parts = and_true (fits v f) (all_fit v fs) h in sound_more v f fs (is_sound_from v f parts.0) (all_sound_from v fs parts.1)
 
+has_from : (v : Version) (f : Field) → fits v f ≡ true → field_has_bytes f ≡ true
+has_from v (SomeBytes bytes) h = (and_true (is_octets bytes) (are_bytes bytes) h).1
+has_from v _ h = refl
+
+all_have_from : (v : Version) (fs : List Field) → all_fit v fs ≡ true → list_all field_has_bytes fs ≡ true
+all_have_from v [] h = refl
+all_have_from v (f ∷ fs) h = let parts = and_true (fits v f) (all_fit v fs) h in rw (has_from v f parts.0, all_have_from v fs parts.1) refl
+
 field_is_word : (v : Version) (f : Field) → fits v f ≡ true → is_unspaced (field_text f) ≡ true
 field_is_word v (AnOwner owner) h = owner_field.is_word owner h
 field_is_word v (AnObject x) h = object_field.is_word x h
@@ -321,16 +329,21 @@ spelled_so One (EndsInContext call) so [] c h e = let same : call ≡ c = cc in 
 spelled_so Two (EndsInContext call) so (TheContext ∷ []) c h e = let same : call ≡ c = cc in sym (ap (spelling Two) same) ∙ h
 spelled_so v _ so fs c h e = absurd cc
 
--- the call is sound, and these are its words
+-- the call is sound, its bytes are bytes, and these are its words
 record IsSpelling (v : Version) (ws : List (List ℕ)) (c : Call) : Type 0 where
   words_are : ws ≡ words_of v c
   is_sound : is_sound_call_in v c ≡ true
+  has : has_bytes c ≡ true
 
 spelled_as : (v : Version) (verb name : List ℕ) (fields : List Field) (ws : List (List ℕ)) (c : Call) → verb ≡ name → ws ≡ map field_text fields → all_fit v fields ≡ true → spelling v c ≡ (name with fields) → IsSpelling v (verb ∷ ws) c
 spelled_as v verb name fields ws c named texts fit so = record {
   words_are = rw (so, named, texts) refl;
-  is_sound = all_sound_from v (spelling One c).fields (sym (same_fit v v c) ∙ ap (λ (s : Spelling). all_fit v s.fields) so ∙ fit);
+  is_sound = all_sound_from v (spelling One c).fields (first v fit);
+  has = all_have_from v (spelling One c).fields (first v fit);
 }
+  where
+    first : (w : Version) → all_fit w fields ≡ true → all_fit w (spelling One c).fields ≡ true
+    first w fit = sym (same_fit v w c) ∙ ap (λ (s : Spelling). all_fit w s.fields) so ∙ fit
 
 form_spelled : (v : Version) (rows : List Form) → AllSpell v rows → (verb : List ℕ) (ws : List (List ℕ)) (c : Call) → (form_in rows verb >>= λ reading. read v reading ws) ≡ Some c → IsSpelling v (verb ∷ ws) c
 form_spelled v [] all verb ws c e = absurd cc
@@ -354,6 +367,11 @@ unfolding call_of
 call_spelled v text c e =
     let spelling = words_spelled v (words text) c e in
     (sym (joined-words text) ∙ ap joined spelling.words_are ∙ sym (call_text-words v c), spelling.is_sound)
+
+-- what is read has bytes for bytes
+pub call_has_bytes : (v : Version) (text : List ℕ) (c : Call) → call_of v text ≡ Some c → has_bytes c ≡ true
+unfolding call_of
+call_has_bytes v text c e = (words_spelled v (words text) c e).has
 
 -- ---- what reading a text answers
 

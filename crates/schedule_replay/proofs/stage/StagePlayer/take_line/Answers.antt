@@ -2,7 +2,7 @@ use Rattle.std.proofs.Common.{subst, sym}
 use Rattle.schedule_replay.specs.declared.stage.Stage.{Stage}
 use Rattle.schedule_replay.specs.Stages.{IsAtHeader, TakesHeader}
 use Rattle.schedule_replay.proofs.StageLaws.{header_line}
-use Rattle.schedule_replay.proofs.stage.StageTakesLines.take_line.Goals as goal
+use Rattle.schedule_replay.proofs.stage.StagePlayer.take_line.Goals as goal
 
 pub returns-in-Header-clause-taken : goal.returns-in-Header-clause-taken
 returns-in-Header-clause-taken c =

@@ -1,6 +1,6 @@
 use Rattle.schedule_replay.specs.Stages.{IsAtHeader}
 use Rattle.schedule_replay.proofs.StageLaws.{header_end}
-use Rattle.schedule_replay.proofs.stage.StageTakesLines.finish.Goals as goal
+use Rattle.schedule_replay.proofs.stage.StagePlayer.finish.Goals as goal
 
 pub returns-in-Header : goal.returns-in-Header
 returns-in-Header c =
