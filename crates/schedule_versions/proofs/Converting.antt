@@ -41,7 +41,7 @@ Spell v n (line ∷ rest) (i ∷ is) = (is_over_limit n line ≡ false) × (line
 spelled : (v : Version) (n : ℕ) (ls : List Line) → (judged_from (shaper v) (shaper v).course n ls).refused ≡ None → Spell v n ls (judged_from (shaper v) (shaper v).course n ls).inputs
 unfolding judged_from line_input
 spelled v n [] e = tt
-spelled v n (line ∷ rest) e = each (is_over_limit n line) line.ended (input_of v line.text) refl refl refl e
+spelled v n (line ∷ rest) e = each (is_over_limit n line) line.ended (input_of v line.text) refl refl refl (spelled v (n + 1) rest) e
   where
     next : Input → Judged Input
     next i = judged_from (shaper v) (shaper v).course (n + 1) rest
@@ -49,11 +49,13 @@ spelled v n (line ∷ rest) e = each (is_over_limit n line) line.ended (input_of
     found : Bool → Bool → Option Input → Judged Input
     found over ended read = judged_one n (cond over (Err Limit) (cond ended (fitting (shaper v) (shaper v).course read) (Err Form))) next
 
-    each : (over ended : Bool) (read : Option Input) → is_over_limit n line ≡ over → line.ended ≡ ended → input_of v line.text ≡ read → (found over ended read).refused ≡ None → Spell v n (line ∷ rest) (found over ended read).inputs
-    each true ended read a b c none = absurd cc
-    each false false read a b c none = absurd cc
-    each false true None a b c none = absurd cc
-    each false true (Some i) a b c none = (a, b, c, spelled v (n + 1) rest none)
+    each : (over ended : Bool) (read : Option Input) → is_over_limit n line ≡ over → line.ended ≡ ended → input_of v line.text ≡ read
+        → ((judged_from (shaper v) (shaper v).course (n + 1) rest).refused ≡ None → Spell v (n + 1) rest (judged_from (shaper v) (shaper v).course (n + 1) rest).inputs)
+        → (found over ended read).refused ≡ None → Spell v n (line ∷ rest) (found over ended read).inputs
+    each true ended read a b c more none = absurd cc
+    each false false read a b c more none = absurd cc
+    each false true None a b c more none = absurd cc
+    each false true (Some i) a b c more none = (a, b, c, more none)
 
 -- ---- the same input, in the second version
 
@@ -112,13 +114,14 @@ module _ (tells : List Input → List Item) (strays : List Input → Bool) where
   judged-alike v n c [] (i ∷ is) h = absurd h
   judged-alike v n c (line ∷ rest) [] h = absurd h
   judged-alike v n c (line ∷ rest) (i ∷ is) h =
-      rw (line-before v n c line i h.0 h.1 h.2, line-behind v n c line i h.0 h.2) (each (why_not (runner_by Two tells strays) c i))
+      rw (line-before v n c line i h.0 h.1 h.2, line-behind v n c line i h.0 h.2) (each (why_not (runner_by Two tells strays) c i) (judged-alike v (n + 1) (once_given i c) rest is h.3))
     where
       each : (why : Option Reason)
+          → judged_from (runner_by v tells strays) (once_given i c) (n + 1) rest ≡ judged_from (runner_by Two tells strays) (once_given i c) (n + 1) (map line_in is)
           → judged_one n (ok_unless i why) (λ j. judged_from (runner_by v tells strays) (once_given j c) (n + 1) rest)
           ≡ judged_one n (ok_unless i why) (λ j. judged_from (runner_by Two tells strays) (once_given j c) (n + 1) (map line_in is))
-      each None = ap (λ (j : Judged Input). record { inputs = i ∷ j.inputs; refused = j.refused }) (judged-alike v (n + 1) (once_given i c) rest is h.3)
-      each (Some why) = refl
+      each None more = ap (λ (j : Judged Input). record { inputs = i ∷ j.inputs; refused = j.refused }) more
+      each (Some why) more = refl
 
 -- in either mode
 mode-alike : (v : Version) (mode : Mode) (ls : List Line) (is : List Input) → Spell v 2 ls is
