@@ -32,7 +32,7 @@ use Rattle.schedule_replay.specs.Replays.{Replayed, behind, with_front, replayed
 use Rattle.schedule_replay.specs.Standings.{Standing, runner_of, Follows, once}
 use Rattle.schedule_replay.proofs.TextLaws.{begins_behind, begins_it, front-nil, front-front}
 use Rattle.schedule_replay.proofs.RunLaws.{accepts, refuses-so, no-more-so, no-input, cut-input, limit-input, not-over}
-use Rattle.schedule_replay.proofs.WholeLaws.{headerless}
+use Rattle.schedule_replay.proofs.HeaderLaws.{headerless}
 
 -- ---- what reads lines and runs nothing, as what stands for a machine
 
@@ -142,6 +142,12 @@ in-front c = λ n ls. begins_it c.text.items (converted_from c.version n ls).tex
 
 -- ---- by how it ended
 
+abbrev refused-first : Option (ℕ × Reason)
+refused-first = Some (1, Form)
+
+never : {A : Type 0} → refused-first ≡ None → A
+never e = absurd cc
+
 -- what was taken of whole lines is all that they are turned into
 of-whole : (c : Conversion) (n : ℕ) (whole text : List ℕ) → ready c n → text_in c ≡ [] → (n ≡ 1 → whole ≡ []) → converted_all (lines whole) ≡ with_front text (plays c n []) → IsOfWhole whole text
 of-whole c n whole text h empty begun e = by_version c.version h (e ∙ ap (λ (l : List ℕ). with_front text (with_front l (converted_from c.version n []))) empty ∙ ap (with_front text) (sym (front-nil (converted_from c.version n []))))
@@ -156,8 +162,7 @@ of-whole c n whole text h empty begun e = by_version c.version h (e ∙ ap (λ (
 
     some-lines : (whole : List ℕ) → converted_all (lines whole) ≡ record { text = Some text; refused = None } → IsOfWhole whole text
     some-lines [] e =
-        let f : Some (1, Form) ≡ None = ap (λ (r : Replayed). r.refused) (sym (ap converted_all no-bytes ∙ ends-first false [] (omega arith)) ∙ e) in
-        absurd cc
+        never (ap (λ (r : Replayed). r.refused) (sym (ap converted_all no-bytes ∙ ends-first false [] (omega arith)) ∙ e))
     some-lines (x ∷ xs) e =
         let g : Some (converted (x ∷ xs)) ≡ Some text = ap (λ (r : Replayed). r.text) e in
         let k : converted (x ∷ xs) ≡ text = cc in

@@ -4,6 +4,7 @@ pub mod PlayLaws
 pub mod ItemLaws
 pub mod HostLaws
 pub mod StationLaws
+pub mod HeaderLaws
 pub mod WholeLaws
 pub mod StageLaws
 pub mod SessionLaws

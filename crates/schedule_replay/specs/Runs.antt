@@ -9,10 +9,10 @@ use Rattle.tree_specs.specs.declared.schedule.Header.{Header}
 use Rattle.tree_specs.specs.declared.schedule.Mode.{Mode}
 use Rattle.tree_specs.specs.declared.schedule.Mode.TheVariants.{Service}
 use Rattle.tree_specs.specs.Texts.Lines.{Line, lines}
-use Rattle.tree_specs.specs.Texts.Schedule.{header_of}
 use Rattle.service_rules.specs.Schedules.{judge, inputs_of, transcript_of}
 use Rattle.service_rules.specs.Service.{service_story}
 use Rattle.line_pieces.specs.Cuts.{has_no_lf}
+use Rattle.schedule_versions.specs.Conversions.{header_at}
 use Rattle.schedule_replay.specs.declared.ran.Ran.{Ran}
 use Rattle.schedule_replay.specs.declared.ran.Ran.TheVariants as rans
 
@@ -35,7 +35,7 @@ pub record IsBad (bytes : List ℕ) (line : ℕ) (reason : Reason) (held now : O
 -- what the first line says, where it is a whole one
 abbrev pub header_in : List Line → Option Header
 header_in [] = None
-header_in (first ∷ rest) = if first.ended then header_of first.text else None
+header_in (first ∷ rest) = header_at first
 
 -- what runs the lines after it
 abbrev pub mode_in : List Line → Option Mode

@@ -19,6 +19,16 @@ pub struct Conversion {
     text: Vec<u8>,
 }
 
+/// The line with this number isn't in the grammar.
+fn no_line(number: u64) -> Stop
+    ensures { result ≡ Stop.Refused number Reason.Form }
+{
+    Stop::Refused {
+        line: number,
+        reason: Reason::Form,
+    }
+}
+
 impl Conversion {
     /// The first line is still to come.
     pub(crate) fn new(alloc: Global) -> Conversion
@@ -37,10 +47,7 @@ impl Conversion {
         ensures { TakesHeader self.old line.now self.new result }
     {
         let Some(Header { version, mode }) = header(line) else {
-            return Err(Stop::Refused {
-                line: 1,
-                reason: Reason::Form,
-            });
+            return Err(no_line(1));
         };
         let second = Header {
             version: Version::Two,
@@ -59,10 +66,7 @@ impl Conversion {
     {
         match convert_line(line, version, &mut self.text) {
             Ok(()) => Ok(()),
-            Err(FormFault::NoForm) => Err(Stop::Refused {
-                line: number,
-                reason: Reason::Form,
-            }),
+            Err(FormFault::NoForm) => Err(no_line(number)),
             Err(FormFault::Memory) => Err(Stop::Memory),
         }
     }
@@ -101,12 +105,10 @@ impl Player for Conversion {
     }
 
     fn finish(&mut self, number: u64, cut: bool) -> Result<(), Stop> {
-        if cut || self.version.is_none() {
-            return Err(Stop::Refused {
-                line: number,
-                reason: Reason::Form,
-            });
+        match self.version {
+            None => Err(no_line(number)),
+            Some(_version) if cut => Err(no_line(number)),
+            Some(_version) => Ok(()),
         }
-        Ok(())
     }
 }

@@ -3,7 +3,7 @@
 #![tactic(auto)]
 
 mod conversion;
-mod convert;
+mod converting;
 mod header;
 mod machine;
 mod over_host;
@@ -11,15 +11,15 @@ mod over_station;
 mod play;
 mod player;
 mod ran;
-mod replay;
+mod replaying;
 mod session;
 mod stage;
 mod stop;
 mod telling;
 
-pub use convert::convert;
+pub use converting::convert;
 pub use machine::Machine;
 pub use play::Play;
 pub use ran::Ran;
-pub use replay::replay;
+pub use replaying::replay;
 pub use stop::Stop;

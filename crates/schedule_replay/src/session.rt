@@ -15,14 +15,14 @@ use outside::{Got, PutError, Sink, Source, put_all};
 use std::alloc::Global;
 
 /// Writes what is to be written next. At an error a prefix of it is written.
-fn put_text<P: Player, K: Sink>(player: &mut P, out: &mut K) -> Result<(), PutError>
-    ensures bytes { PutsAll (K.held out.old) (K.held out.new) result (P.text_in player.old) }
+fn put_text<P: Player, K: Sink>(taker: &mut Taker<P>, out: &mut K) -> Result<(), PutError>
+    ensures bytes { PutsAll (K.held out.old) (K.held out.new) result (P.text_in taker.old) }
     ensures cause { Counts (K.faults out.old) (K.faults out.new) (result ≡ Err PutError.Write) }
-    ensures emptied { OnOk result (IsEmptied P.plays P.text_in P.ready player.old player.new) }
-    ensures front { IsInFront P.plays P.text_in player.old }
+    ensures emptied { OnOk result (IsEmptied P.plays P.text_in P.ready taker.old taker.new) }
+    ensures front { IsInFront P.plays P.text_in taker.old }
 {
-    put_all(out, player.text())?;
-    player.clear_text();
+    put_all(out, taker.player.text())?;
+    taker.player.clear_text();
     Ok(())
 }
 
@@ -42,7 +42,7 @@ fn take_run<'a, P: Player, K: Sink>(
     ensures cause { Counts (K.faults out.old) (K.faults out.new) (result ≡ Err Stop.Write) }
 {
     let taken = reader.feed_until_full(piece);
-    put_text(&mut reader.taker.player, out)?;
+    put_text(&mut reader.taker, out)?;
     Ok(taken?)
 }
 
@@ -77,7 +77,7 @@ fn take_end<P: Player, K: Sink>(
     ensures cause { Counts (K.faults out.old) (K.faults out.new) (result ≡ Err Stop.Write) }
 {
     let taken = reader.finish();
-    put_text(&mut reader.taker.player, out)?;
+    put_text(&mut reader.taker, out)?;
     taken?;
     Ok(())
 }

@@ -1,5 +1,5 @@
 use Rattle.schedule_replay.proofs.ReplayLaws.{replays-known}
-use Rattle.schedule_replay.proofs.replay.run.Goals as goal
+use Rattle.schedule_replay.proofs.replaying.run.Goals as goal
 
 pub returns-clause-replays : goal.returns-clause-replays
 returns-clause-replays g c = replays-known _ _ _ _ _ _ tt c.play.ensures.plays

@@ -1,6 +1,6 @@
 use Rattle.std.proofs.Common.{sym, ◌∙◌}
 use Rattle.schedule_replay.proofs.StoryLaws.{done-story, bad-story}
-use Rattle.schedule_replay.proofs.replay.replay.Goals as goal
+use Rattle.schedule_replay.proofs.replaying.replay.Goals as goal
 
 pub returns-clause-story : goal.returns-clause-story
 returns-clause-story g c = λ done. done-story _ _ _ _ _ c.run.ensures.replays (sym c.ending.ensures ∙ done)
