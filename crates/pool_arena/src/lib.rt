@@ -15,6 +15,8 @@ use std::fmt;
 use std::marker::Model;
 
 mod guesses;
+mod node;
+mod places;
 #[cfg(test)]
 mod tests;
 
