@@ -1,0 +1,29 @@
+-- What a contract sees of places: a finite map from keys to slots, and how many more fit with no allocation.
+use Rattle.std.specs.Prelude.{◌≡◌, ℕ, ◌-◌, ◌<◌, min, List, [], ◌∷◌, length, Option, Some, None, vec_len, vec_capacity}
+use Rattle.std.specs.Ordering.{nat_cmp}
+use Rattle.std.specs.FinMap as map
+use Rattle.pool_arena.specs.Nodes.{nowhere, IsKept}
+use Rattle.pool_arena.specs.declared.node.Node.{Node}
+use Rattle.pool_arena.specs.declared.places.Places.{Places}
+
+-- a map with the slot of a node in it, if the node has one
+abbrev pub with_slot : map.FinMap nat_cmp ℕ → ℕ → Option ℕ → map.FinMap nat_cmp ℕ
+with_slot m key None = m
+with_slot m key (Some slot) = map.insert m key slot
+
+abbrev pub slots_in : List Node → map.FinMap nat_cmp ℕ
+slots_in [] = map.empty
+slots_in (node ∷ rest) = with_slot (slots_in rest) node.key node.slot
+
+-- the slot of each key
+abbrev pub slots_of : Places → map.FinMap nat_cmp ℕ
+slots_of p = slots_in p.nodes.items
+
+-- so many more keys fit with no allocation
+abbrev pub spare : Places → ℕ
+spare p = min (vec_capacity p.nodes) nowhere - vec_len p.nodes
+
+-- each key is found, and there are heads for those that may be added
+pub record IsSound (p : Places) : Type 0 where
+  pub kept : IsKept p.heads.items p.nodes.items
+  pub ready : 0 < spare p → 0 < length p.heads.items
