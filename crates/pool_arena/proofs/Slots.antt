@@ -86,7 +86,7 @@ pub record Changes (nodes others : List Node) (i : ℕ) (now : Option (ℕ × �
   pub here : pair_at others i ≡ now
   pub else : (j : ℕ) → j ≢ i → pair_at others j ≡ pair_at nodes j
 
-either : {P : Type 0} (k l : ℕ) → (k ≡ l → P) → (k ≢ l → P) → P
+pub either : {P : Type 0} (k l : ℕ) → (k ≡ l → P) → (k ≢ l → P) → P
 either k l same differ = by_test (nat_eq k l) (λ t. same (eqb-true k l t)) (λ t. differ (λ e. let bad : true ≡ false = sym (eq-eqb k l e) ∙ t in absurd (cc)))
 
 module _ (nodes others : List Node) (i key slot : ℕ) (one : Apart nodes) where

@@ -1,6 +1,6 @@
 -- What is kept under keys: a table of heads, and below each a tree of nodes through which one goes by the bits of a key.
 use Rattle.std.specs.Prelude.{◌≡◌, ◌≢◌, ℕ, zero, suc, ◌-◌, ◌<◌, ◌≤◌, ◌/◌, ◌%◌, ◌==◌, max, List, length, Option, Some, None, if◌then◌else◌, slice_get, slice_index_or, bit_and, option_map}
-use Rattle.std.specs.Option.{option_and_then}
+use Rattle.std.specs.Option.{option_and_then, unwrap_or}
 use Rattle.pool_arena.specs.declared.node.Node.{Node}
 
 -- a link that leads nowhere, and so many nodes at most
@@ -47,6 +47,10 @@ pair_of node = option_map (λ slot. (node.key, slot)) node.slot
 abbrev pub pair_at : List Node → ℕ → Option (ℕ × ℕ)
 pair_at nodes i = option_and_then pair_of (slice_get nodes i)
 
+-- the link that a key with these bits follows from an index
+abbrev pub link_at : List Node → ℕ → ℕ → ℕ
+link_at nodes i rest = unwrap_or (option_map (next rest) (slice_get nodes i)) nowhere
+
 -- the node at an index is of this key, held or not
 abbrev pub IsOf : List Node → ℕ → ℕ → Type 0
 IsOf nodes key i = (node : Node) × (slice_get nodes i ≡ Some node) × (node.key ≡ key)
@@ -67,6 +71,10 @@ IsFound heads nodes key i = Leads nodes key (head heads key) (rest_of (length he
 -- also does where only later nodes are others
 abbrev pub IsOnTheWay : List Node → ℕ → ℕ → ℕ → ℕ → ℕ → Type 0
 IsOnTheWay nodes key from bits link rest = (others : List Node) → ((j : ℕ) → j < link → slice_get others j ≡ slice_get nodes j) → (i : ℕ) → Leads others key link rest i → Leads others key from bits i
+
+-- a key gets to an index once the node there is of this key, where only nodes from there on are others
+abbrev pub IsReachable : List ℕ → List Node → ℕ → ℕ → Type 0
+IsReachable heads nodes key i = (others : List Node) → ((j : ℕ) → j < i → slice_get others j ≡ slice_get nodes j) → IsOf others key i → IsFound heads others key i
 
 -- no node holds the key
 abbrev pub IsNowhere : List Node → ℕ → Type 0

@@ -1,5 +1,5 @@
 -- What a contract sees of places: a finite map from keys to slots, and how many more fit with no allocation.
-use Rattle.std.specs.Prelude.{◌≡◌, ℕ, ◌-◌, ◌<◌, min, List, [], ◌∷◌, length, Option, Some, None, vec_len, vec_capacity}
+use Rattle.std.specs.Prelude.{◌≡◌, ℕ, ◌-◌, ◌+◌, ◌<◌, ◌≤◌, min, List, [], ◌∷◌, length, Option, Some, None, vec_len, vec_capacity}
 use Rattle.std.specs.Ordering.{nat_cmp}
 use Rattle.std.specs.FinMap as map
 use Rattle.pool_arena.specs.Nodes.{nowhere, IsKept}
@@ -27,3 +27,16 @@ spare p = min (vec_capacity p.nodes) nowhere - vec_len p.nodes
 pub record IsSound (p : Places) : Type 0 where
   pub kept : IsKept p.heads.items p.nodes.items
   pub ready : 0 < spare p → 0 < length p.heads.items
+
+-- a key may be added
+pub record CanAdd (p : Places) (key : ℕ) : Type 0 where
+  pub sound : IsSound p
+  pub vacant : map.get (slots_of p) key ≡ None
+  pub room : 1 ≤ spare p
+
+-- a key was added
+pub record IsAdded (old new : Places) (key slot : ℕ) : Type 0 where
+  pub sound : IsSound new
+  pub slots : slots_of new ≡ map.insert (slots_of old) key slot
+  pub spare_left : spare old ≤ spare new + 1
+  pub same_heads : length new.heads.items ≡ length old.heads.items

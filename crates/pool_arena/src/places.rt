@@ -1,10 +1,11 @@
 //! The slots of keys. A table of heads is gone into by the last bits of a key, and below each head stands a tree in
 //! which each node has a key of its own, and leads on by the next bit. So a key with last bits of its own is found at
 //! its head, and one of many that share them, however they were chosen, in at most as many steps as a key has bits.
-ghost use Rattle.std.specs.Prelude.{◌≡◌, ◌≤◌, ◌<◌, ◌+◌, ℕ, Some, None, IfSome, IfOk, option_copied, IsOk, OnOk, OnErr, length, slice_get, is_some, vec_len, vec_capacity, set, ◌++◌, ◌∷◌, []};
+ghost use Rattle.std.specs.Prelude.{◌≡◌, ◌≤◌, ◌<◌, ◌+◌, ℕ, IsTrue, Some, None, IfSome, IfOk, option_copied, IsOk, OnOk, OnErr, length, slice_get, is_some, vec_len, vec_capacity, set, ◌++◌, ◌∷◌, []};
 ghost use Rattle.std.specs.FinMap as map;
-ghost use Rattle.pool_arena.specs.Nodes.{IsKept, IsFound, IsOf, pair_at, home as home_of, rest_of, head as head_of, fresh};
-ghost use Rattle.pool_arena.specs.Places.{IsSound, slots_of, spare};
+ghost use Rattle.pool_arena.specs.declared.node.Node.{Node};
+ghost use Rattle.pool_arena.specs.Nodes.{IsKept, IsFound, IsOf, pair_at, home as home_of, rest_of, head as head_of, link_at, vacated, IsNowhere, IsOnTheWay, IsReachable};
+ghost use Rattle.pool_arena.specs.Places.{IsSound, CanAdd, IsAdded, slots_of, spare};
 
 use crate::node::{NOWHERE, Node};
 use std::alloc::{AllocError, Global};
@@ -118,8 +119,137 @@ impl Places {
         ensures { result ≡ map.get (slots_of self.now) key }
     {
         match self.find(key) {
-            Some(index) => self.nodes[index].slot,
+            Some(index) => self.slot_at(index),
             None => None,
         }
+    }
+
+    /// What the node at an index holds.
+    #[inline]
+    fn slot_at(&self, index: usize) -> Option<usize>
+        requires { index < length self.now.nodes.items }
+        ensures { (node : Node) → slice_get self.now.nodes.items index ≡ Some node → result ≡ node.slot }
+    {
+        self.nodes[index].slot
+    }
+
+    /// Adds a key that isn't held, in room that is there.
+    #[inline]
+    pub(crate) fn insert(&mut self, key: u64, slot: usize)
+        requires { CanAdd self.old key }
+        ensures { IsAdded self.old self.new key slot }
+    {
+        let first = self.head(key);
+        if self.is_held(first) {
+            self.insert_below(key, slot);
+        } else if first < self.nodes.len() {
+            self.fill(first, key, slot);
+        } else {
+            self.plant(key, slot);
+        }
+    }
+
+    /// Adds a key at whose head another is held.
+    #[cold]
+    #[inline(never)]
+    fn insert_below(&mut self, key: u64, slot: usize)
+        requires can_add { CanAdd self.old key }
+        requires taken { IsTrue (is_some (pair_at self.old.nodes.items (head_of self.old.heads.items key))) }
+        ensures { IsAdded self.old self.new key slot }
+    {
+        let (last, rest) = self.last_held(key);
+        let link = self.link(last, rest);
+        if link < self.nodes.len() {
+            self.fill(link, key, slot);
+        } else {
+            self.hang(last, rest, key, slot);
+        }
+    }
+
+    /// The last node that holds a key on the way of this one, and the bits by which it goes on from there.
+    fn last_held(&self, key: u64) -> (usize, u64)
+        requires kept { IsKept self.now.heads.items self.now.nodes.items }
+        requires elsewhere { IsNowhere self.now.nodes.items key }
+        requires taken { IsTrue (is_some (pair_at self.now.nodes.items (head_of self.now.heads.items key))) }
+        ensures held { IsTrue (is_some (pair_at self.now.nodes.items result.0)) }
+        ensures way { IsOnTheWay self.now.nodes.items key (head_of self.now.heads.items key) (rest_of (length self.now.heads.items) key) result.0 result.1 }
+        ensures last { pair_at self.now.nodes.items (link_at self.now.nodes.items result.0 result.1) ≡ None }
+    {
+        let mut index = self.head(key);
+        let mut rest = self.rest(key);
+        while self.is_held(self.link(index, rest)) {
+            index = self.link(index, rest);
+            rest /= 2;
+        }
+        (index, rest)
+    }
+
+    /// The link that a key with these bits follows from a node.
+    fn link(&self, index: usize, rest: u64) -> usize
+        requires { IsTrue (is_some (pair_at self.now.nodes.items index)) }
+        ensures { result ≡ link_at self.now.nodes.items index rest }
+    {
+        self.nodes[index].next(rest) as usize
+    }
+
+    /// Adds a key at a node that holds nothing, and to which it gets.
+    #[inline]
+    fn fill(&mut self, index: usize, key: u64, slot: usize)
+        requires can_add { CanAdd self.old key }
+        requires within { index < length self.old.nodes.items }
+        requires vacant { pair_at self.old.nodes.items index ≡ None }
+        requires reachable { IsReachable self.old.heads.items self.old.nodes.items key index }
+        ensures { IsAdded self.old self.new key slot }
+    {
+        self.nodes[index].fill(key, slot);
+    }
+
+    /// Adds a key at its head, which leads nowhere.
+    fn plant(&mut self, key: u64, slot: usize)
+        requires can_add { CanAdd self.old key }
+        requires gap { length self.old.nodes.items ≤ head_of self.old.heads.items key }
+        ensures { IsAdded self.old self.new key slot }
+    {
+        let home = self.home(key);
+        self.heads[home] = self.nodes.len() as u32;
+        self.nodes.push_reserved(Node::new(key, slot));
+    }
+
+    /// Adds a key behind the last node on its way, which leads nowhere by these bits.
+    fn hang(&mut self, last: usize, rest: u64, key: u64, slot: usize)
+        requires can_add { CanAdd self.old key }
+        requires held { IsTrue (is_some (pair_at self.old.nodes.items last)) }
+        requires way { IsOnTheWay self.old.nodes.items key (head_of self.old.heads.items key) (rest_of (length self.old.heads.items) key) last rest }
+        requires gap { length self.old.nodes.items ≤ link_at self.old.nodes.items last rest }
+        ensures { IsAdded self.old self.new key slot }
+    {
+        let link = self.nodes.len() as u32;
+        self.nodes[last].lead(rest, link);
+        self.nodes.push_reserved(Node::new(key, slot));
+    }
+
+    /// Takes a key out, which isn't held from then on. None exactly where it wasn't held.
+    pub(crate) fn remove(&mut self, key: u64) -> Option<usize>
+        requires { IsSound self.old }
+        ensures sound { IsSound self.new }
+        ensures value { result ≡ map.get (slots_of self.old) key }
+        ensures slots { slots_of self.new ≡ map.remove (slots_of self.old) key }
+        ensures spare { spare self.new ≡ spare self.old }
+    {
+        match self.find(key) {
+            Some(index) => self.vacate(index),
+            None => None,
+        }
+    }
+
+    /// Takes out what a node holds.
+    fn vacate(&mut self, index: usize) -> Option<usize>
+        requires { index < length self.old.nodes.items }
+        ensures value { (node : Node) → slice_get self.old.nodes.items index ≡ Some node → result ≡ node.slot }
+        ensures nodes { (node : Node) → slice_get self.old.nodes.items index ≡ Some node → self.new.nodes.items ≡ set self.old.nodes.items index (vacated node) }
+        ensures heads { self.new.heads.items ≡ self.old.heads.items }
+        ensures spare { spare self.new ≡ spare self.old }
+    {
+        self.nodes[index].slot.take()
     }
 }
