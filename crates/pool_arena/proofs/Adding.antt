@@ -7,7 +7,7 @@ use Rattle.std.proofs.lemmas.Nat.{and_le_r}
 use Rattle.std.proofs.lemmas.Option.{slice_get_past, slice_get_within}
 use Rattle.std.specs.FinMap as map
 use Rattle.pool_arena.specs.declared.node.Node.{Node}
-use Rattle.pool_arena.specs.Nodes.{nowhere, home, head, rest_of, next, leading, fresh, filled, vacated, pair_at, pair_of, IsOf, IsFound, IsKept, IsNowhere, IsOnTheWay, IsReachable}
+use Rattle.pool_arena.specs.Nodes.{nowhere, home, head, rest_of, next, leading, fresh, filled, vacated, pair_at, pair_of, IsOf, LeadsIn, IsFound, IsKept, IsNowhere, IsOnTheWay, IsReachable}
 use Rattle.pool_arena.specs.Places.{slots_in}
 use Rattle.pool_arena.proofs.Keeps.{by_test}
 use Rattle.pool_arena.proofs.ReadAt.{get-set_same, get-set_other, get-push_same, get-push_other}
@@ -46,7 +46,9 @@ module _ (heads : List ℕ) (nodes : List Node) (kept : IsKept heads nodes) (key
     found = λ q s j e. new_or_old nodes others i key slot (apart heads nodes kept) change was free j q s e
         (λ d qk sl. subst (λ (x : ℕ). IsFound later others q x) (sym d) (subst (λ (x : ℕ). IsFound later others x i) (sym qk) way))
         (λ ne at. let f = kept.found q s j at in
-        (f.0, rw (many, same q s j at) (still_leads q nodes others (passable q ne) f.0 (head heads q) (rest_of (length heads) q) j (is_of_pair others j q s e) f.1)));
+        (f.0, subst (λ (x : ℕ). LeadsIn f.0 others q x (rest_of (length later) q) j) (sym (same q s j at))
+          (subst (λ (x : ℕ). LeadsIn f.0 others q (head heads q) (rest_of x q) j) (sym many)
+          (still_leads q nodes others (passable q ne) f.0 (head heads q) (rest_of (length heads) q) j (is_of_pair others j q s e) f.1))));
     rising = rising;
     few = few;
   }

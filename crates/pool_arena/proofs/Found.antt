@@ -1,9 +1,10 @@
 -- What is known of a key by where it gets to.
-use Rattle.std.proofs.Common.{◌≡◌, ◌≢◌, ℕ, Option, Some, None, IsSome, is_some, slice_get, List, false, true, refl, sym, ap, ◌∙◌}
-use Rattle.std.proofs.lemmas.Option.{same_Some}
+use Rattle.std.proofs.Common.{◌≡◌, ◌≢◌, ◌<◌, length, ℕ, Option, Some, None, IsSome, is_some, slice_get, List, false, true, refl, sym, ap, ◌∙◌}
+use Rattle.std.proofs.lemmas.Option.{same_Some, slice_get_within}
+use Rattle.std.specs.Option.{option_and_then}
 use Rattle.std.specs.FinMap as map
 use Rattle.pool_arena.specs.declared.node.Node.{Node}
-use Rattle.pool_arena.specs.Nodes.{pair_at, IsFound, IsKept, IsNowhere}
+use Rattle.pool_arena.specs.Nodes.{pair_at, pair_of, IsFound, IsKept, IsNowhere}
 use Rattle.pool_arena.specs.Places.{slots_in}
 use Rattle.pool_arena.proofs.Walks.{apart}
 use Rattle.pool_arena.proofs.Slots.{slot_of_held, none_of_nowhere}
@@ -37,3 +38,10 @@ module _ (heads : List ℕ) (nodes : List Node) (kept : IsKept heads nodes) (key
           let at : index ≡ i = same_Some index i (only i (kept.found key s i h)) in
           let bad : None ≡ Some (key, s) = sym (pair_without nodes index node e n) ∙ ap (pair_at nodes) at ∙ h in absurd (cc)) ∙ sym n
       go (Some s) n = slot_of_held nodes (apart heads nodes kept) index key s (pair_with nodes index s node e n ∙ ap (λ k. Some (k, s)) own) ∙ sym n
+
+pub held_within : (nodes : List Node) (i : ℕ) → IsSome (pair_at nodes i) → i < length nodes
+held_within nodes i held = go (slice_get nodes i) refl
+  where
+    go : (o : Option Node) → slice_get nodes i ≡ o → i < length nodes
+    go None e = let bad : false ≡ true = sym (ap is_some (ap (option_and_then pair_of) e)) ∙ held in absurd (cc)
+    go (Some node) e = slice_get_within nodes i node e

@@ -79,6 +79,12 @@ same_by_answers m n there back = same_pairs m n (λ q. go q (map.get m q) refl (
     go q None e (Some s) f = back q s f ∙ sym f
     go q (Some s) e p f = e ∙ sym (there q s e)
 
+-- the same pairs are held
+pub slots_same : (nodes others : List Node) → Apart nodes → Apart others → ((j : ℕ) → pair_at others j ≡ pair_at nodes j) → slots_in others ≡ slots_in nodes
+slots_same nodes others one two same = same_by_answers (slots_in others) (slots_in nodes)
+    (λ q s e. let w = held_by others q s e in slot_of_held nodes one w.0 q s (sym (same w.0) ∙ w.1))
+    (λ q s e. let w = held_by nodes q s e in slot_of_held others two w.0 q s (same w.0 ∙ w.1))
+
 -- ---- changes
 
 -- at one index there is another pair, or none
