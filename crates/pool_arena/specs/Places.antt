@@ -40,3 +40,9 @@ pub record IsAdded (old new : Places) (key slot : ℕ) : Type 0 where
   pub slots : slots_of new ≡ map.insert (slots_of old) key slot
   pub spare_left : spare old ≤ spare new + 1
   pub same_heads : length new.heads.items ≡ length old.heads.items
+
+-- the slots are the same, and there is no less room
+pub record IsSame (old new : Places) : Type 0 where
+  pub sound : IsSound new
+  pub slots : slots_of new ≡ slots_of old
+  pub spare_kept : spare old ≤ spare new

@@ -1,11 +1,11 @@
 //! The slots of keys. A table of heads is gone into by the last bits of a key, and below each head stands a tree in
 //! which each node has a key of its own, and leads on by the next bit. So a key with last bits of its own is found at
 //! its head, and one of many that share them, however they were chosen, in at most as many steps as a key has bits.
-ghost use Rattle.std.specs.Prelude.{◌≡◌, ◌≤◌, ◌<◌, ◌+◌, ℕ, IsTrue, Some, None, IfSome, IfOk, option_copied, IsOk, OnOk, OnErr, length, slice_get, is_some, vec_len, vec_capacity, set, ◌++◌, ◌∷◌, []};
+ghost use Rattle.std.specs.Prelude.{◌≡◌, ◌≤◌, ◌<◌, ◌+◌, ℕ, min, false, IsTrue, Some, None, IfSome, IfOk, option_copied, IsOk, OnOk, OnErr, length, slice_get, is_some, vec_len, vec_capacity, set, ◌++◌, ◌∷◌, []};
 ghost use Rattle.std.specs.FinMap as map;
 ghost use Rattle.pool_arena.specs.declared.node.Node.{Node};
-ghost use Rattle.pool_arena.specs.Nodes.{IsKept, IsFound, IsOf, pair_at, home as home_of, rest_of, head as head_of, link_at, vacated, IsNowhere, IsOnTheWay, IsReachable};
-ghost use Rattle.pool_arena.specs.Places.{IsSound, CanAdd, IsAdded, slots_of, spare};
+ghost use Rattle.pool_arena.specs.Nodes.{IsKept, IsFound, IsOf, pair_at, home as home_of, rest_of, head as head_of, link_at, vacated, IsNowhere, IsOnTheWay, IsReachable, nowhere};
+ghost use Rattle.pool_arena.specs.Places.{IsSound, CanAdd, IsAdded, IsSame, with_slot, slots_of, spare};
 
 use crate::node::{NOWHERE, Node};
 use std::alloc::{AllocError, Global};
@@ -251,5 +251,109 @@ impl Places {
         ensures spare { spare self.new ≡ spare self.old }
     {
         self.nodes[index].slot.take()
+    }
+
+    /// Takes memory for so many more keys, where so many are held. If memory runs out, the slots are as they were.
+    pub(crate) fn reserve(&mut self, n: usize, held: usize) -> Result<(), AllocError>
+        requires { IsSound self.old }
+        ensures same { IsSame self.old self.new }
+        ensures room { OnOk result (n ≤ spare self.new) }
+    {
+        if self.is_crowded(held) {
+            self.make_over(held)?;
+        }
+        self.grow(n)
+    }
+
+    /// Whether there are fewer heads than nodes, or than twice the keys that are held.
+    #[inline]
+    fn is_crowded(&self, held: usize) -> bool
+        ensures { result ≡ false → 0 < length self.now.heads.items }
+    {
+        let heads = self.heads.len();
+        heads / 2 <= held || heads < self.nodes.len()
+    }
+
+    /// Takes memory for so many more nodes.
+    #[inline]
+    fn grow(&mut self, n: usize) -> Result<(), AllocError>
+        requires sound { IsSound self.old }
+        requires some { 0 < length self.old.heads.items }
+        ensures same { IsSame self.old self.new }
+        ensures room { OnOk result (n ≤ spare self.new) }
+    {
+        if n > (NOWHERE as usize).saturating_sub(self.nodes.len()) {
+            return Err(AllocError);
+        }
+        self.nodes.reserve(n)
+    }
+
+    /// Goes over to new nodes for the keys that are held, and to more heads where these are too few for them.
+    #[cold]
+    #[inline(never)]
+    fn make_over(&mut self, held: usize) -> Result<(), AllocError>
+        requires { IsSound self.old }
+        ensures same { IsSame self.old self.new }
+        ensures some { OnOk result (0 < length self.new.heads.items) }
+    {
+        let heads = self.heads_for(held)?;
+        *self = self.made_over(heads)?;
+        Ok(())
+    }
+
+    /// How many heads there are to be for so many keys.
+    fn heads_for(&self, held: usize) -> Result<usize, AllocError>
+        ensures { IfOk result (λ heads. 0 < heads) }
+    {
+        let heads = self.heads.len();
+        if held < heads / 2 {
+            return Ok(heads);
+        }
+        heads.max(4).checked_mul(2).ok_or(AllocError)
+    }
+
+    /// The same slots, with so many heads, and with no nodes that hold nothing.
+    fn made_over(&self, heads: usize) -> Result<Places, AllocError>
+        requires sound { IsSound self.now }
+        requires some { 0 < heads }
+        ensures same { IfOk result (λ made. IsSame self.now made) }
+        ensures some { IfOk result (λ made. 0 < length made.heads.items) }
+    {
+        let mut made =
+            Places::with_room(heads, self.nodes.capacity(), *self.nodes.allocator())?;
+        for node in &self.nodes {
+            made.copy(*node);
+        }
+        Ok(made)
+    }
+
+    /// No keys, with so many heads, and with room for so many nodes.
+    fn with_room(heads: usize, nodes: usize, alloc: Global) -> Result<Places, AllocError>
+        requires { 0 < heads }
+        ensures sound { IfOk result (λ made. IsSound made) }
+        ensures empty { IfOk result (λ made. slots_of made ≡ map.empty) }
+        ensures spare { IfOk result (λ made. min nodes nowhere ≤ spare made) }
+        ensures some { IfOk result (λ made. 0 < length made.heads.items) }
+    {
+        let mut links = Vec::new(alloc);
+        links.resize(heads, NOWHERE)?;
+        Ok(Places {
+            heads: links,
+            nodes: Vec::with_capacity(alloc, nodes)?,
+        })
+    }
+
+    /// Adds the key that a node holds, if it holds one.
+    fn copy(&mut self, node: Node)
+        requires sound { IsSound self.old }
+        requires can_add { (slot : ℕ) → node.slot ≡ Some slot → CanAdd self.old node.key }
+        ensures sound { IsSound self.new }
+        ensures slots { slots_of self.new ≡ with_slot (slots_of self.old) node.key node.slot }
+        ensures spare { spare self.old ≤ spare self.new + 1 }
+        ensures heads { length self.new.heads.items ≡ length self.old.heads.items }
+    {
+        if let Some(slot) = node.slot {
+            self.insert(node.key, slot);
+        }
     }
 }

@@ -1,11 +1,11 @@
-use Rattle.std.proofs.Common.{◌≡◌, ◌<◌, Some, List, slice_get, set, length, refl, sym, subst, arith, ap, ◌∙◌, ◌++◌, ◌∷◌, [], ℕ}
+use Rattle.std.proofs.Common.{◌≡◌, ◌<◌, ◌≤◌, Some, List, slice_get, set, length, refl, sym, subst, arith, ap, ◌∙◌, ◌++◌, ◌∷◌, [], ℕ}
 use Rattle.std.proofs.lemmas.Option.{slice_get_read}
 use Rattle.std.specs.FinMap as map
 use Rattle.pool_arena.specs.declared.node.Node.{Node}
 use Rattle.pool_arena.specs.Nodes.{IsKept, leading, fresh, nowhere}
 use Rattle.pool_arena.specs.Places.{slots_in, slots_of}
 use Rattle.pool_arena.proofs.Slots.{no_slot}
-use Rattle.pool_arena.proofs.Found.{held_is_other, held_within}
+use Rattle.pool_arena.proofs.Found.{held_is_other, held_within, link_of_node}
 use Rattle.pool_arena.proofs.Adding.{hang-kept, hang-slots}
 use Rattle.pool_arena.proofs.places.Places.hang.Goals as goal
 
@@ -24,4 +24,14 @@ returns c =
       c.push_reserved.ensures.items
       ∙ ap (λ (x : Node). set nodes c.args.last x ++ c.new.result ∷ []) (c.lead.ensures ∙ ap (λ (l : ℕ). leading c.args.rest l node) long)
       ∙ ap (λ (x : Node). set nodes c.args.last (leading c.args.rest (length nodes) node) ++ x ∷ []) c.new.ensures in
-    ?
+    let gap = subst (λ (x : ℕ). length nodes ≤ x) (link_of_node nodes c.args.last c.args.rest node at) c.requires.gap in
+    record {
+      sound = record {
+        kept = subst (λ (ns : List Node). IsKept heads ns) (sym are)
+            (hang-kept heads nodes sound.kept c.args.key c.args.slot free room c.args.last c.args.rest node at c.requires.held past gap c.requires.way);
+        ready = λ h. sound.ready (omega (arith, c.requires.can_add.room));
+      };
+      slots = ap slots_in are ∙ hang-slots heads nodes sound.kept c.args.key c.args.slot free room c.args.last c.args.rest node at c.requires.held past gap;
+      spare_left = omega (arith, c.push_reserved.ensures.len, c.push_reserved.ensures.capacity);
+      same_heads = refl;
+    }

@@ -17,4 +17,17 @@ returns c =
     let long : c.len.result ≡ length nodes = omega arith in
     let are : c.push_reserved.new.self.items ≡ nodes ++ fresh c.args.key c.args.slot ∷ [] =
       c.push_reserved.ensures.items ∙ ap (λ (x : Node). nodes ++ x ∷ []) c.new.ensures in
-    ?
+    let some : 0 < length heads = sound.ready (omega (arith, c.requires.can_add.room)) in
+    let planted : set heads c.home-home.result c.len.result ≡ set heads (home (length heads) c.args.key) (length nodes) =
+      ap (λ (x : ℕ). set heads x c.len.result) c.home-home.ensures ∙ ap (λ (x : ℕ). set heads (home (length heads) c.args.key) x) long in
+    record {
+      sound = record {
+        kept = subst (λ (hs : List ℕ). IsKept hs c.push_reserved.new.self.items) (sym planted)
+            (subst (λ (ns : List Node). IsKept (set heads (home (length heads) c.args.key) (length nodes)) ns) (sym are)
+            (plant-kept heads nodes sound.kept c.args.key c.args.slot free room some c.requires.gap));
+        ready = λ h. let l = length-set heads c.home-home.result c.len.result in omega (arith, some, l);
+      };
+      slots = ap slots_in are ∙ plant-slots heads nodes sound.kept c.args.key c.args.slot free room some c.requires.gap;
+      spare_left = omega (arith, c.push_reserved.ensures.len, c.push_reserved.ensures.capacity);
+      same_heads = length-set heads c.home-home.result c.len.result;
+    }
