@@ -1,4 +1,4 @@
-use Rattle.std.proofs.Common.{sym, subst, ℕ, length, ◌/◌}
+use Rattle.std.proofs.Common.{rules, sym, subst, ℕ, length, ◌/◌}
 use Rattle.pool_arena.specs.Nodes.{IsOnTheWay, head, rest_of}
 use Rattle.pool_arena.proofs.Found.{way_on}
 use Rattle.pool_arena.proofs.places.Places.last_held.Goals as goal
