@@ -8,19 +8,17 @@ ghost use Rattle.std.specs.Ordering.{nat_cmp};
 ghost use Rattle.std.specs.FinMap as map;
 ghost use Rattle.std.specs.Borrow.{sem};
 
-use indexmap::IndexMap;
 use slab::Slab;
 use std::alloc::{AllocError, Global};
 use std::fmt;
 use std::marker::Model;
 
-mod guesses;
 mod node;
 mod places;
 #[cfg(test)]
 mod tests;
 
-use guesses::{Guess, is_vacant, join, keep_up, leave, look_at, short, slot_of};
+use places::Places;
 
 /// Values, each under a key of its own. Contracts see a finite map from keys to values, and spare: so many more values
 /// can be added without taking memory. Only `reserve` takes memory.
@@ -28,9 +26,7 @@ use guesses::{Guess, is_vacant, join, keep_up, leave, look_at, short, slot_of};
 pub struct Arena<T> {
     slots: Slab<T>,
     /// The slot of each key.
-    places: IndexMap<u64, usize>,
-    /// What is known of the keys without a look at the places.
-    guesses: Vec<Guess>,
+    places: Places,
 }
 
 impl<T> Model for Arena<T> {
@@ -42,7 +38,7 @@ impl<T> Model for Arena<T> {
 
     ghost view = { λ a. held a.places a.slots };
 
-    ghost invariant = { λ a. IsKept a.places a.slots a.guesses.items };
+    ghost invariant = { λ a. IsKept a.places a.slots };
 }
 
 impl<T> Arena<T> {
@@ -56,8 +52,7 @@ impl<T> Arena<T> {
     {
         Arena {
             slots: Slab::new(alloc),
-            places: IndexMap::new(alloc),
-            guesses: Vec::new(alloc),
+            places: Places::new(alloc),
         }
     }
 
@@ -67,9 +62,8 @@ impl<T> Arena<T> {
         ensures spare { self.old.spare ≤ self.new.spare }
         ensures room { OnOk result (n ≤ self.new.spare) }
     {
-        keep_up(&mut self.guesses, &self.places)?;
         self.slots.reserve(n)?;
-        self.places.reserve(n)
+        self.places.reserve(n, self.slots.len())
     }
 
     /// Adds a value under a key that isn't held.
@@ -80,18 +74,14 @@ impl<T> Arena<T> {
         ensures spare { self.old.spare ≤ self.new.spare + 1 }
     {
         let slot = self.slots.insert_reserved(value);
-        join(&mut self.guesses, key, short(self.places.len()));
-        match self.places.insert(key, slot) {
-            Ok(_) => (),
-            Err(_) => unreachable!(),
-        }
+        self.places.insert(key, slot);
     }
 
     /// The value of a key. None exactly where it isn't held.
     pub fn get(&self, key: u64) -> Option<&T>
         ensures { option_copied result ≡ get self.now key }
     {
-        match slot_of(&self.places, &self.guesses, key) {
+        match self.places.get(key) {
             Some(slot) => self.slots.get(slot),
             None => None,
         }
@@ -102,7 +92,7 @@ impl<T> Arena<T> {
         ensures* writes_back { sem 𝓛 (lends_get T.row self.entry key result) }
         ensures value { option_copied_mut result ≡ get self.old key }
     {
-        match slot_of(&self.places, &self.guesses, key) {
+        match self.places.get(key) {
             Some(slot) => self.slots.get_mut(slot),
             None => None,
         }
@@ -114,15 +104,8 @@ impl<T> Arena<T> {
         ensures pairs { self.new.pairs ≡ map.remove self.old.pairs key }
         ensures spare { self.old.spare ≤ self.new.spare }
     {
-        if is_vacant(&self.guesses, &self.places, key) {
-            return None;
-        }
-        match self.places.swap_remove_full(&key) {
-            Some((index, _, slot)) => {
-                leave(&mut self.guesses, key);
-                look_at(&mut self.guesses, &self.places, index);
-                self.slots.try_remove(slot)
-            }
+        match self.places.remove(key) {
+            Some(slot) => self.slots.try_remove(slot),
             None => None,
         }
     }
@@ -131,7 +114,7 @@ impl<T> Arena<T> {
     pub fn len(&self) -> usize
         ensures { result ≡ map.len self.now.pairs }
     {
-        self.places.len()
+        self.slots.len()
     }
 }
 
