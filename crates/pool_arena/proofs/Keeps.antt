@@ -1,5 +1,5 @@
 -- What each change of the places and the slots leaves of the map.
-use Rattle.std.proofs.Common.{◌≡◌, ◌≢◌, ℕ, ◌+◌, ◌-◌, Bool, true, false, cond, nat_eq, List, [], ◌∷◌, length, get_or, Option, Some, None, IsSome, is_some, refl, sym, ap, ◌∙◌, arith, suc, add-one}
+use Rattle.std.proofs.Common.{◌≡◌, ◌≢◌, ℕ, ◌+◌, ◌-◌, Bool, true, false, cond, nat_eq, List, [], ◌∷◌, length, get_or, Option, Some, None, IsSome, is_some, count_by, refl, sym, ap, ◌∙◌, arith, suc, add-one}
 use Rattle.std.proofs.lemmas.Bool.{eqb-true, eq-eqb}
 use Rattle.std.specs.Prelude.{min}
 use Rattle.std.specs.Option.{option_and_then}
@@ -155,13 +155,16 @@ module _ {X : Type 0} where
       go (Some i) e = none_is_none (slot_get s i) (tied.filled k i e) (ap (option_and_then (slot_get s)) (sym e) ∙ sym (reads m s k) ∙ none)
 
   -- no keys
+  pub empty-pairs : (m : map.FinMap nat_cmp ℕ) (s : Slab X) → m ≡ map.empty → pairs m s ≡ map.empty
+  empty-pairs m s e = same_pairs (pairs m s) map.empty (λ q.
+      reads m s q ∙ ap (option_and_then (slot_get s)) (ap (λ x. map.get x q) e ∙ get-empty {X = ℕ} nat_cmp q) ∙ sym (get-empty nat_cmp q))
+
   pub empty_tied : (m : map.FinMap nat_cmp ℕ) (s : Slab X) → m ≡ map.empty → slab_len s ≡ 0 → AreTied m s
   empty_tied m s e n =
-      let none = λ (k : ℕ). ap (λ x. map.get x k) e ∙ get-empty {X = ℕ} nat_cmp k in
-      let nothing : pairs m s ≡ map.empty = same_pairs (pairs m s) map.empty (λ q. reads m s q ∙ ap (option_and_then (slot_get s)) (none q) ∙ sym (get-empty nat_cmp q)) in record {
+      let none = λ (k : ℕ). ap (λ x. map.get x k) e ∙ get-empty {X = ℕ} nat_cmp k in record {
         filled = λ k i f. none_is_none (Some i) refl (sym f ∙ none k);
         apart = λ k l i f g. none_is_none (Some i) refl (sym f ∙ none k);
-        counted = ap map.len nothing ∙ len-empty nat_cmp X ∙ sym n;
+        counted = ap map.len (empty-pairs m s e) ∙ len-empty nat_cmp X ∙ sym n;
       }
 
   -- a new pair
@@ -246,6 +249,14 @@ module _ {X : Type 0} where
   pub pairs_of-slots : (es : List (ℕ × ℕ)) (s s' : Slab X) → s'.slots ≡ s.slots → pairs_of es s' ≡ pairs_of es s
   pairs_of-slots [] s s' e = refl
   pairs_of-slots (x ∷ es) s s' e = λ j. with_entry (pairs_of-slots es s s' e j) x.0 (get_or (e j) x.1 None)
+
+  -- the same values in the same slots
+  pub same-tied : (m : map.FinMap nat_cmp ℕ) (s s' : Slab X) → s'.slots ≡ s.slots → AreTied m s → AreTied m s'
+  same-tied m s s' e tied = record {
+    filled = λ k i f. rw e (tied.filled k i f);
+    apart = tied.apart;
+    counted = ap map.len (pairs_of-slots (map.entries m) s s' e) ∙ tied.counted ∙ ap (count_by is_some) (sym e);
+  }
 
 pub removed_none : {X : Type 0} (m : map.FinMap nat_cmp X) (k : ℕ) → map.get m k ≡ None → map.remove m k ≡ m
 removed_none m k none = same_pairs _ _ (λ q. get-with_entry m k None q ∙ by_test (nat_eq k q)
