@@ -2,7 +2,7 @@
 use Rattle.std.proofs.Common.{◌≡◌, ◌≢◌, ℕ, ◌+◌, ◌-◌, Bool, true, false, cond, nat_eq, List, [], ◌∷◌, length, get_or, Option, Some, None, IsSome, is_some, count_by, refl, sym, ap, ◌∙◌, arith, suc, add-one}
 use Rattle.std.proofs.lemmas.Bool.{eqb-true, eq-eqb}
 use Rattle.std.specs.Prelude.{min}
-use Rattle.std.specs.Option.{option_and_then}
+use Rattle.std.specs.Option.{option_and_then, OnSome}
 use Rattle.std.specs.Ordering.{nat_cmp, eq_by_cmp, is_eq}
 use Rattle.std.specs.declared.cmp.Ordering.{Ordering}
 use Rattle.std.specs.declared.cmp.Ordering.TheVariants.{Less, Equal, Greater}
@@ -153,6 +153,10 @@ module _ {X : Type 0} where
       go : (o : Option ℕ) → map.get m k ≡ o → map.get m k ≡ None
       go None e = e
       go (Some i) e = none_is_none (slot_get s i) (tied.filled k i e) (ap (option_and_then (slot_get s)) (sym e) ∙ sym (reads m s k) ∙ none)
+
+  pub on_some : {P : Type 0} (o : Option X) → IsSome o → OnSome o P → P
+  on_some None h p = absurd (cc)
+  on_some (Some v) h p = p
 
   -- no keys
   pub empty-pairs : (m : map.FinMap nat_cmp ℕ) (s : Slab X) → m ≡ map.empty → pairs m s ≡ map.empty

@@ -8,7 +8,7 @@ use Rattle.pool_arena.proofs.Arena.get.Goals as goal
 
 pub returns-in-Some : goal.returns-in-Some
 returns-in-Some g c =
-    c.get.ensures
+    c.get-in-Some.ensures
     ∙ sym (ap (λ a. get a c.args.key) (sym c.self.view_is) ∙ reads (slots_of c.self.inside.places) c.self.inside.slots c.args.key ∙ ap (option_and_then (slot_get c.self.inside.slots)) (sym c.in-Some.ensures))
 
 pub returns-in-None : goal.returns-in-None

@@ -3,13 +3,19 @@ use Rattle.std.specs.Option.{option_and_then, ghost_name_of}
 use Rattle.slab.specs.Slab.{get as slot_get}
 use Rattle.pool_arena.specs.Arena.{get, with_value}
 use Rattle.pool_arena.specs.Places.{slots_of}
-use Rattle.pool_arena.proofs.Keeps.{reads, write-held}
+use Rattle.pool_arena.proofs.Keeps.{reads, write-held, write-tied}
 use Rattle.pool_arena.proofs.Arena.get_mut.Goals as goal
 use borrow.Follows.Closed.{read_of}
 use mathlib.Core.Logic.{inr}
 
 pub invariant_of-self-lent : goal.invariant_of-self-lent
-invariant_of-self-lent g c = ?
+invariant_of-self-lent g c lent = (
+  λ w. record {
+    places = c.self.invariant.places;
+    tied = write-tied (slots_of c.self.inside.places) c.self.inside.slots c.self.invariant.tied c.args.key c.in-Some.slot (sym c.in-Some.ensures) w;
+  },
+  c.self.invariant,
+)
 
 pub returns-in-Some : goal.returns-in-Some
 returns-in-Some g c =
