@@ -40,15 +40,17 @@ module _ (rest link : ℕ) (node : Node) where
 module _ (heads : List ℕ) (nodes : List Node) (kept : IsKept heads nodes) (key slot : ℕ) (free : IsNowhere nodes key) where
   -- whoever was found still is, and so is the key
   kept_with : (later : List ℕ) (others : List Node) (i : ℕ) → Changes nodes others i (Some (key, slot)) → pair_at nodes i ≡ None → IsFound later others key i
-    → ((q : ℕ) → q ≢ key → StayOpen q nodes others) → length later ≡ length heads → ((q s j : ℕ) → pair_at nodes j ≡ Some (q, s) → head later q ≡ head heads q)
-    → ((j : ℕ) (node : Node) → slice_get others j ≡ Some node → (j < node.even) × (j < node.odd)) → length others ≤ nowhere → IsKept later others
+      → ((q : ℕ) → q ≢ key → StayOpen q nodes others) → length later ≡ length heads → ((q s j : ℕ) → pair_at nodes j ≡ Some (q, s) → head later q ≡ head heads q)
+      → ((j : ℕ) (node : Node) → slice_get others j ≡ Some node → (j < node.even) × (j < node.odd)) → length others ≤ nowhere → IsKept later others
   kept_with later others i change was way passable many same rising few = record {
     found = λ q s j e. new_or_old nodes others i key slot (apart heads nodes kept) change was free j q s e
         (λ d qk sl. subst (λ (x : ℕ). IsFound later others q x) (sym d) (subst (λ (x : ℕ). IsFound later others x i) (sym qk) way))
-        (λ ne at. let f = kept.found q s j at in
-        (f.0, subst (λ (x : ℕ). LeadsIn f.0 others q x (rest_of (length later) q) j) (sym (same q s j at))
-          (subst (λ (x : ℕ). LeadsIn f.0 others q (head heads q) (rest_of x q) j) (sym many)
-          (still_leads q nodes others (passable q ne) f.0 (head heads q) (rest_of (length heads) q) j (is_of_pair others j q s e) f.1))));
+        (λ ne at. let f = kept.found q s j at in (
+          f.0,
+          subst (λ (x : ℕ). LeadsIn f.0 others q x (rest_of (length later) q) j) (sym (same q s j at))
+              (subst (λ (x : ℕ). LeadsIn f.0 others q (head heads q) (rest_of x q) j) (sym many)
+              (still_leads q nodes others (passable q ne) f.0 (head heads q) (rest_of (length heads) q) j (is_of_pair others j q s e) f.1)),
+        ));
     rising = rising;
     few = few;
   }
@@ -139,11 +141,14 @@ module _ (heads : List ℕ) (nodes : List Node) (kept : IsKept heads nodes) (key
 
       hang-passable : (q : ℕ) → StayOpen q nodes hung
       hang-passable q j other f ne = either j at
-          (λ (a : j ≡ at). let same : other ≡ node = same_read (slice_get nodes j) other node f (ap (slice_get nodes) a ∙ e) in
-          (led, ap (slice_get hung) a ∙ at-led, (λ k. ne (ap (λ (x : Node). x.key) same ∙ sym (leading-key rest end node) ∙ k)),
-          λ bits to g. next-other rest end node bits (λ same_link.
-            let w = slice_get_within nodes (next bits other) to g in
-            let x : next bits other ≡ next rest node = ap (next bits) same ∙ same_link in omega arith) ∙ ap (next bits) (sym same)))
+          (λ (a : j ≡ at). let same : other ≡ node = same_read (slice_get nodes j) other node f (ap (slice_get nodes) a ∙ e) in (
+            led,
+            ap (slice_get hung) a ∙ at-led,
+            (λ k. ne (ap (λ (x : Node). x.key) same ∙ sym (leading-key rest end node) ∙ k)),
+            λ bits to g. next-other rest end node bits (λ same_link.
+                let w = slice_get_within nodes (next bits other) to g in
+                let x : next bits other ≡ next rest node = ap (next bits) same ∙ same_link in omega arith) ∙ ap (next bits) (sym same),
+          ))
           (λ a. (other, elsewhere j (off j other f) a ∙ f, ne, λ bits to g. refl))
 
       pub hang-kept : IsOnTheWay nodes key (head heads key) (rest_of (length heads) key) at rest → IsKept heads hung

@@ -185,7 +185,7 @@ module _ {X : Type 0} where
     add-tied new more =
         let f = added-fits (map.get m) (map.get placed) _ _ (fits2 m s tied) k i v (get-with_entry m k (Some i)) slots.changed slots.others empty in
         let one : map.len (map.insert (pairs m s) k v) ≡ map.len (pairs m s) + 1 =
-            len-insert nat_cmp_total (pairs m s) k v ∙ ap (λ o. cond (is_some o) (map.len (pairs m s)) (map.len (pairs m s) + 1)) new in
+        len-insert nat_cmp_total (pairs m s) k v ∙ ap (λ o. cond (is_some o) (map.len (pairs m s)) (map.len (pairs m s) + 1)) new in
         record { filled = f.filled; apart = f.apart; counted = ap map.len add-pairs ∙ one ∙ ap (λ n. n + 1) tied.counted ∙ sym more }
 
   -- a pair goes
@@ -204,7 +204,7 @@ module _ {X : Type 0} where
     take-tied fewer =
         let f = taken-fits (map.get m) (map.get left) _ _ (fits2 m s tied) k i at (get-with_entry m k None) slots.others in
         let one : map.len (map.remove (pairs m s) k) ≡ map.len (pairs m s) - 1 =
-            len-remove nat_cmp_total (pairs m s) k ∙ ap (λ b. cond b (map.len (pairs m s) - 1) (map.len (pairs m s))) was_there in
+        len-remove nat_cmp_total (pairs m s) k ∙ ap (λ b. cond b (map.len (pairs m s) - 1) (map.len (pairs m s))) was_there in
         let count = tied.counted in
         record { filled = f.filled; apart = f.apart; counted = ap map.len take-pairs ∙ one ∙ omega (arith, count, fewer) }
 
@@ -234,7 +234,7 @@ module _ {X : Type 0} where
         let u = Updates-with_value s i w (tied.filled k i at) in
         let there : IsSome (map.get (pairs m s) k) = rw (reads m s k, at) (tied.filled k i at) in
         let same : map.len (map.insert (pairs m s) k w) ≡ map.len (pairs m s) =
-            len-insert nat_cmp_total (pairs m s) k w ∙ ap (λ b. cond b (map.len (pairs m s)) (map.len (pairs m s) + 1)) there in
+        len-insert nat_cmp_total (pairs m s) k w ∙ ap (λ b. cond b (map.len (pairs m s)) (map.len (pairs m s) + 1)) there in
         record {
           filled = λ l j e. by_test (nat_eq i j)
               (λ t. let d : i ≡ j = eqb-true i j t in rw (ap (slot_get (slot_with s i w)) (sym d), u.changed) refl)

@@ -38,7 +38,7 @@ has_slot [] i q s e = absurd (cc)
 has_slot (node ∷ rest) i q s e = go (λ j h. has_slot rest j q s h) node.slot refl i e
   where
     go : ((j : ℕ) → pair_at rest j ≡ Some (q, s) → IsSome (map.get (slots_in rest) q)) → (o : Option ℕ) → node.slot ≡ o → (i : ℕ) → pair_at (node ∷ rest) i ≡ Some (q, s) → IsSome (map.get (slots_in (node ∷ rest)) q)
-    go later None f zero h = let bad : None ≡ Some (q, s) = rw f at h in absurd (cc)
+    go later None f zero h = let bad : ◌≡◌ {A = Option (ℕ × ℕ)} None (Some (q, s)) = rw f at h in absurd (cc)
     go later None f (suc i) h = rw f (later i h)
     go later (Some t) f zero h =
         let pair : ◌≡◌ {A = Option (ℕ × ℕ)} (Some (node.key, t)) (Some (q, s)) = rw f at h in
@@ -150,5 +150,5 @@ module _ (nodes others : List Node) (i key slot : ℕ) (one : Apart nodes) where
         (λ t. let bad : None ≡ Some s = rw t at got in absurd (cc))
         (λ t. let w = held_by nodes q s (rw t at got) in
         slot_of_held others apart_without w.0 q s (change.else w.0 (λ d.
-          let pair : ◌≡◌ {A = ℕ × ℕ} (q, s) (key, slot) = same_read (pair_at nodes w.0) (q, s) (key, slot) w.1 (ap (pair_at nodes) d ∙ was) in
-          let bad : true ≡ false = sym (eq-eqb key q (sym (ap (λ (p : ℕ × ℕ). p.0) pair))) ∙ t in absurd (cc)) ∙ w.1)))
+        let pair : ◌≡◌ {A = ℕ × ℕ} (q, s) (key, slot) = same_read (pair_at nodes w.0) (q, s) (key, slot) w.1 (ap (pair_at nodes) d ∙ was) in
+        let bad : true ≡ false = sym (eq-eqb key q (sym (ap (λ (p : ℕ × ℕ). p.0) pair))) ∙ t in absurd (cc)) ∙ w.1)))

@@ -58,7 +58,7 @@ module _ (nodes : List Node) (key : ℕ) where
 
   -- a step more on the way
   pub way_goes_on : (from bits link rest : ℕ) (node : Node) → slice_get nodes link ≡ Some node → node.key ≢ key → link < next rest node
-    → IsOnTheWay nodes key from bits link rest → IsOnTheWay nodes key from bits (next rest node) (rest / 2)
+      → IsOnTheWay nodes key from bits link rest → IsOnTheWay nodes key from bits (next rest node) (rest / 2)
   way_goes_on from bits link rest node e d lt way others same i l =
       way others (λ j b. same j (omega arith)) i (suc l.0, (node, same link lt ∙ e, d, l.1))
 
@@ -74,7 +74,7 @@ apart heads nodes kept key s t i j e f =
 -- whoever passes a node passes the one that stands there now, and goes on as before if it got anywhere
 abbrev pub StayOpen : ℕ → List Node → List Node → Type 0
 StayOpen key nodes others = (i : ℕ) (node : Node) → slice_get nodes i ≡ Some node → node.key ≢ key
-  → (other : Node) × (slice_get others i ≡ Some other) × (other.key ≢ key) × ((rest : ℕ) (to : Node) → slice_get nodes (next rest node) ≡ Some to → next rest other ≡ next rest node)
+    → (other : Node) × (slice_get others i ≡ Some other) × (other.key ≢ key) × ((rest : ℕ) (to : Node) → slice_get nodes (next rest node) ≡ Some to → next rest other ≡ next rest node)
 
 pub still_leads : (key : ℕ) (nodes others : List Node) → StayOpen key nodes others → (n link rest i : ℕ) → IsOf others key i → LeadsIn n nodes key link rest i → LeadsIn n others key link rest i
 still_leads key nodes others passable zero link rest i own l = (l.0, own)

@@ -1,5 +1,7 @@
 //! Values under serial numbers, each found at once however many there are. A value stays in its slot until it is taken
-//! out, and the slot then serves the next one.
+//! out, and the slot then serves the next one. No hash is used: a number is found by its last bits, and where others
+//! that are held share these by the bits before them. So numbers in a row are found in one step, and whoever chooses
+//! numbers to be a burden can make it 64 steps at most.
 #![tactic(auto)]
 
 ghost use Rattle.std.specs.Prelude.{◌≡◌, ◌≤◌, ◌+◌, IsOk, IsTrue, OnOk, OnErr, Some, None, option_copied, IsSome};

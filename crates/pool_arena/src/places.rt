@@ -319,8 +319,7 @@ impl Places {
         ensures same { IfOk result (λ made. IsSame self.now made) }
         ensures some { IfOk result (λ made. 0 < length made.heads.items) }
     {
-        let mut made =
-            Places::with_room(heads, self.nodes.capacity(), *self.nodes.allocator())?;
+        let mut made = Places::with_room(heads, self.nodes.capacity(), *self.nodes.allocator())?;
         for node in &self.nodes {
             made.copy(*node);
         }

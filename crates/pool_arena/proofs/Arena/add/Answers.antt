@@ -27,5 +27,5 @@ pub returns-clause-pairs : goal.returns-clause-pairs
 returns-clause-pairs g c =
     ap (λ m. pairs m c.insert_reserved-slot.new.self) c.insert.ensures.slots
     ∙ add-pairs (slots_of c.self.inside.places) c.self.inside.slots c.insert_reserved-slot.new.self c.self.invariant.tied c.args.key c.insert_reserved-slot.result c.args.value
-        c.insert_reserved-slot.ensures.updates c.insert_reserved-slot.ensures.was_vacant
+    c.insert_reserved-slot.ensures.updates c.insert_reserved-slot.ensures.was_vacant
     ∙ ap (λ a. map.insert a.pairs c.args.key c.args.value) c.self.view_is

@@ -21,9 +21,9 @@ returns c =
     let past = held_is_other nodes c.args.last c.args.key node at c.requires.held free in
     let long : c.len-link.result ≡ length nodes = omega arith in
     let are : c.push_reserved.new.self.items ≡ set nodes c.args.last (leading c.args.rest (length nodes) node) ++ fresh c.args.key c.args.slot ∷ [] =
-      c.push_reserved.ensures.items
-      ∙ ap (λ (x : Node). set nodes c.args.last x ++ c.new.result ∷ []) (c.lead.ensures ∙ ap (λ (l : ℕ). leading c.args.rest l node) long)
-      ∙ ap (λ (x : Node). set nodes c.args.last (leading c.args.rest (length nodes) node) ++ x ∷ []) c.new.ensures in
+    c.push_reserved.ensures.items
+    ∙ ap (λ (x : Node). set nodes c.args.last x ++ c.new.result ∷ []) (c.lead.ensures ∙ ap (λ (l : ℕ). leading c.args.rest l node) long)
+    ∙ ap (λ (x : Node). set nodes c.args.last (leading c.args.rest (length nodes) node) ++ x ∷ []) c.new.ensures in
     let gap = subst (λ (x : ℕ). length nodes ≤ x) (link_of_node nodes c.args.last c.args.rest node at) c.requires.gap in
     record {
       sound = record {

@@ -9,5 +9,5 @@ invariant-loop-node l = record {
   sound : IsSound l.made;
   first : HasFirst l.self.nodes.items l.node-index (slots_of l.made);
   room : min (vec_capacity l.self.nodes) nowhere ≤ spare l.made + l.node-index;
-  some : 0 < length l.made.heads.items
+  some : 0 < length l.made.heads.items;
 }

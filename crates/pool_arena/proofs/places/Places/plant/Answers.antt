@@ -16,10 +16,10 @@ returns c =
     let room : length nodes < nowhere = omega (arith, c.requires.can_add.room) in
     let long : c.len.result ≡ length nodes = omega arith in
     let are : c.push_reserved.new.self.items ≡ nodes ++ fresh c.args.key c.args.slot ∷ [] =
-      c.push_reserved.ensures.items ∙ ap (λ (x : Node). nodes ++ x ∷ []) c.new.ensures in
+    c.push_reserved.ensures.items ∙ ap (λ (x : Node). nodes ++ x ∷ []) c.new.ensures in
     let some : 0 < length heads = sound.ready (omega (arith, c.requires.can_add.room)) in
     let planted : set heads c.home-home.result c.len.result ≡ set heads (home (length heads) c.args.key) (length nodes) =
-      ap (λ (x : ℕ). set heads x c.len.result) c.home-home.ensures ∙ ap (λ (x : ℕ). set heads (home (length heads) c.args.key) x) long in
+    ap (λ (x : ℕ). set heads x c.len.result) c.home-home.ensures ∙ ap (λ (x : ℕ). set heads (home (length heads) c.args.key) x) long in
     record {
       sound = record {
         kept = subst (λ (hs : List ℕ). IsKept hs c.push_reserved.new.self.items) (sym planted)
