@@ -1,10 +1,10 @@
 -- Where keys get to.
-use Rattle.std.proofs.Common.{◌≡◌, ◌≢◌, ℕ, zero, suc, ◌/◌, ◌<◌, ◌%◌, Option, Some, None, slice_get, List, length, refl, sym, ap, subst, ◌∙◌, arith}
-use Rattle.std.proofs.lemmas.Option.{same_Some}
+use Rattle.std.proofs.Common.{◌≡◌, ◌≢◌, ℕ, zero, suc, ◌/◌, ◌<◌, ◌≤◌, ◌%◌, Option, Some, None, slice_get, List, length, refl, sym, ap, subst, ◌∙◌, arith}
+use Rattle.std.proofs.lemmas.Option.{same_Some, slice_get_past}
 use Rattle.std.specs.Prelude.{◌==◌}
 use Rattle.pool_arena.proofs.Keeps.{by_test}
 use Rattle.pool_arena.specs.declared.node.Node.{Node}
-use Rattle.pool_arena.specs.Nodes.{pair_at, pair_of, next, IsOf, LeadsIn, Leads, IsFound, IsKept, IsOnTheWay}
+use Rattle.pool_arena.specs.Nodes.{nowhere, IsLeaf, pair_at, pair_of, next, IsOf, LeadsIn, Leads, IsFound, IsKept, IsOnTheWay}
 
 pub same_read : {X : Type 0} (o : Option X) (x y : X) → o ≡ Some x → o ≡ Some y → x ≡ y
 same_read o x y e f = same_Some x y (sym e ∙ f)
@@ -89,3 +89,10 @@ is_of_pair nodes i key slot e = let w = node_of_pair nodes i key slot e in (w.0,
 
 pub next_rises : (rest : ℕ) (node : Node) (i : ℕ) → (i < node.even) × (i < node.odd) → i < next rest node
 next_rises rest node i h = by_test (rest % 2 == 0) (λ t. rw t h.0) (λ t. rw t h.1)
+
+-- a key that comes to a leaf of another key gets nowhere
+pub leaf_ends : (nodes : List Node) (key n link rest i : ℕ) (node : Node) → length nodes ≤ nowhere → slice_get nodes link ≡ Some node → node.key ≢ key → IsLeaf node → LeadsIn n nodes key link rest i → ⊥
+leaf_ends nodes key n link rest i node few e past leaf l =
+    let on = goes_on nodes key n link rest i node e past l in
+    let end : next rest node ≡ nowhere = by_test (rest % 2 == 0) (λ t. rw t leaf.even) (λ t. rw t leaf.odd) in
+    no_way nodes key on.0 (next rest node) (rest / 2) i (ap (slice_get nodes) end ∙ slice_get_past nodes nowhere few) on.1

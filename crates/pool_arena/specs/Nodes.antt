@@ -1,5 +1,6 @@
 -- What is kept under keys: a table of heads, and below each a tree of nodes through which one goes by the bits of a key.
-use Rattle.std.specs.Prelude.{◌≡◌, ◌≢◌, ℕ, zero, suc, ◌-◌, ◌<◌, ◌≤◌, ◌/◌, ◌%◌, ◌==◌, max, List, length, Option, Some, None, if◌then◌else◌, slice_get, slice_index_or, bit_and, option_map}
+use Rattle.std.specs.Prelude.{◌≡◌, ◌≢◌, ℕ, zero, suc, ◌-◌, ◌<◌, ◌≤◌, ◌/◌, ◌%◌, ◌==◌, ◌^◌, List, length, Option, Some, None, if◌then◌else◌, slice_get, slice_index_or, bit_and, option_map}
+use Rattle.std.specs.Int.{w64, trailing_zeros}
 use Rattle.std.specs.Option.{option_and_then, unwrap_or}
 use Rattle.pool_arena.specs.declared.node.Node.{Node}
 
@@ -11,9 +12,10 @@ nowhere = 4294967295
 abbrev pub home : ℕ → ℕ → ℕ
 home many key = bit_and key (many - 1)
 
--- the bits of a key by which it goes on below its head
-abbrev pub rest_of : ℕ → ℕ → ℕ
-rest_of many key = key / max many 1
+-- the bits of a key by which it goes on below its head: those that didn't lead to it, where so many heads are a power of
+-- two. Nothing hangs on which they are
+unfoldable pub rest_of : ℕ → ℕ → ℕ
+rest_of many key = key / 2 ^ (trailing_zeros w64 many % 64)
 
 -- the link at the head of a key
 abbrev pub head : List ℕ → ℕ → ℕ
@@ -25,6 +27,11 @@ head heads key = slice_index_or heads (home (length heads) key) nowhere
 abbrev pub next : ℕ → Node → ℕ
 next rest node = if rest % 2 == 0 then node.even else node.odd
 
+pub record IsLeaf (node : Node) : Type 0 where
+  pub even : node.even ≡ nowhere
+  pub odd : node.odd ≡ nowhere
+
+-- with another link for the keys with these bits
 abbrev pub leading : ℕ → ℕ → Node → Node
 leading rest link node = if rest % 2 == 0 then record node { even = link } else record node { odd = link }
 

@@ -1,6 +1,6 @@
 //! The nodes of which the trees of keys are made.
-ghost use Rattle.std.specs.Prelude.{◌≡◌};
-ghost use Rattle.pool_arena.specs.Nodes.{fresh, filled, vacated, next as next_by, leading};
+ghost use Rattle.std.specs.Prelude.{◌≡◌, IsTrue};
+ghost use Rattle.pool_arena.specs.Nodes.{fresh, filled, IsLeaf, next as next_by, leading};
 
 /// A link that leads nowhere: no node has this index.
 pub const NOWHERE: u32 = u32::MAX;
@@ -29,6 +29,14 @@ impl Node {
             even: NOWHERE,
             odd: NOWHERE,
         }
+    }
+
+    /// Whether it leads to no others.
+    #[inline]
+    pub(crate) fn is_leaf(&self) -> bool
+        ensures { IsTrue result → IsLeaf self.now }
+    {
+        self.even == NOWHERE && self.odd == NOWHERE
     }
 
     /// The link that a key follows whose next bits are these.

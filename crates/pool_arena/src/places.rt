@@ -41,10 +41,11 @@ impl Places {
     }
 
     /// The bits of a key by which it goes on below its head: those that didn't lead to the head.
+    #[tactic(auto, unfolding(crate::specs::Nodes::rest_of))]
     fn rest(&self, key: u64) -> u64
         ensures { result ≡ rest_of (length self.now.heads.items) key }
     {
-        key / self.heads.len().max(1) as u64
+        key.wrapping_shr(self.heads.len().trailing_zeros())
     }
 
     /// The link at the head of a key.
@@ -88,19 +89,21 @@ impl Places {
         match self.node(first) {
             None => None,
             Some(node) if node.key == key => Some(first),
-            Some(_) => self.search(key),
+            Some(node) if node.is_leaf() => None,
+            Some(_) => self.search(key, first),
         }
     }
 
     /// The same, for a key that isn't at its head.
     #[cold]
     #[inline(never)]
-    fn search(&self, key: u64) -> Option<usize>
-        requires { IsKept self.now.heads.items self.now.nodes.items }
+    fn search(&self, key: u64, first: usize) -> Option<usize>
+        requires head { first ≡ head_of self.now.heads.items key }
+        requires kept { IsKept self.now.heads.items self.now.nodes.items }
         ensures own { IfSome result (λ index. IsOf self.now.nodes.items key index) }
         ensures found { (index : ℕ) → IsFound self.now.heads.items self.now.nodes.items key index → result ≡ Some index }
     {
-        let mut link = self.head(key);
+        let mut link = first;
         let mut rest = self.rest(key);
         while let Some(node) = self.node(link) {
             if node.key == key {
