@@ -1,4 +1,4 @@
--- What is kept under keys: a table of heads, and below each a tree of nodes through which one goes by the bits of a key.
+-- A table of heads, and below each a tree of nodes, through which one goes by the bits of a key.
 use Rattle.std.specs.Prelude.{◌≡◌, ◌≢◌, ℕ, zero, suc, ◌-◌, ◌<◌, ◌≤◌, ◌/◌, ◌%◌, ◌==◌, ◌^◌, List, length, Option, Some, None, if◌then◌else◌, slice_get, slice_index_or, bit_and, option_map}
 use Rattle.std.specs.Int.{w64, trailing_zeros}
 use Rattle.std.specs.Option.{option_and_then, unwrap_or}
@@ -12,8 +12,7 @@ nowhere = 4294967295
 abbrev pub home : ℕ → ℕ → ℕ
 home many key = bit_and key (many - 1)
 
--- the bits of a key by which it goes on below its head: those that didn't lead to it, where so many heads are a power of
--- two. Nothing hangs on which they are
+-- the bits of a key by which it goes on from its head: those that didn't lead there, where so many heads are a power of two
 unfoldable pub rest_of : ℕ → ℕ → ℕ
 rest_of many key = key / 2 ^ (trailing_zeros w64 many % 64)
 
@@ -27,6 +26,7 @@ head heads key = slice_index_or heads (home (length heads) key) nowhere
 abbrev pub next : ℕ → Node → ℕ
 next rest node = if rest % 2 == 0 then node.even else node.odd
 
+-- it leads to no others
 pub record IsLeaf (node : Node) : Type 0 where
   pub even : node.even ≡ nowhere
   pub odd : node.odd ≡ nowhere
@@ -35,12 +35,15 @@ pub record IsLeaf (node : Node) : Type 0 where
 abbrev pub leading : ℕ → ℕ → Node → Node
 leading rest link node = if rest % 2 == 0 then record node { even = link } else record node { odd = link }
 
+-- with these, and with no links
 abbrev pub fresh : ℕ → ℕ → Node
 fresh key slot = record { key = key; slot = Some slot; even = nowhere; odd = nowhere }
 
+-- with these, and with the links that it had
 abbrev pub filled : ℕ → ℕ → Node → Node
 filled key slot node = record node { key = key; slot = Some slot }
 
+-- with no slot, and with the links that it had
 abbrev pub vacated : Node → Node
 vacated node = record node { slot = None }
 
@@ -67,6 +70,7 @@ abbrev pub LeadsIn : ℕ → List Node → ℕ → ℕ → ℕ → ℕ → Type 
 LeadsIn zero nodes key link rest i = (link ≡ i) × IsOf nodes key i
 LeadsIn (suc n) nodes key link rest i = (node : Node) × (slice_get nodes link ≡ Some node) × (node.key ≢ key) × LeadsIn n nodes key (next rest node) (rest / 2) i
 
+-- the same, in some number of steps
 abbrev pub Leads : List Node → ℕ → ℕ → ℕ → ℕ → Type 0
 Leads nodes key link rest i = (n : ℕ) × LeadsIn n nodes key link rest i
 

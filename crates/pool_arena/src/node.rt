@@ -8,13 +8,13 @@ pub const NOWHERE: u32 = u32::MAX;
 /// A key with its slot, and where the keys go on that aren't this one.
 #[derive(Clone, Copy)]
 pub struct Node {
-    pub key: u64,
+    pub(crate) key: u64,
     /// None where the key was taken: the node then leads on to others, and waits for the next key that comes by.
-    pub slot: Option<usize>,
+    pub(crate) slot: Option<usize>,
     /// A link for the keys whose next bit is 0.
-    pub even: u32,
+    pub(crate) even: u32,
     /// A link for the keys whose next bit is 1.
-    pub odd: u32,
+    pub(crate) odd: u32,
 }
 
 impl Node {

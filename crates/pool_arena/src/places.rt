@@ -1,7 +1,7 @@
-//! The slots of keys. A table of heads is gone into by the last bits of a key, and below each head stands a tree in
-//! which each node has a key of its own, and leads on by the next bit. So a key with last bits of its own is found at
-//! its head, and one of many that share them, however they were chosen, in at most as many steps as a key has bits.
-ghost use Rattle.std.specs.Prelude.{◌≡◌, ◌≤◌, ◌<◌, ◌+◌, ℕ, min, false, IsTrue, Some, None, IfSome, IfOk, option_copied, IsOk, OnOk, OnErr, length, slice_get, is_some, vec_len, vec_capacity, set, ◌++◌, ◌∷◌, []};
+//! The slots of keys. The last bits of a key lead to a head in a table, and the bits before these on from there through
+//! a tree, in which each node has a key of its own and leads on by one bit. So a key that has its last bits for itself
+//! is found at its head, and one of many that share them, however they were chosen, in no more steps than a key has bits.
+ghost use Rattle.std.specs.Prelude.{◌≡◌, ◌≤◌, ◌<◌, ◌+◌, ℕ, min, false, IsTrue, Some, None, IfSome, IfOk, option_copied, OnOk, length, slice_get, is_some, set};
 ghost use Rattle.std.specs.FinMap as map;
 ghost use Rattle.pool_arena.specs.declared.node.Node.{Node};
 ghost use Rattle.pool_arena.specs.Nodes.{IsKept, IsFound, IsOf, pair_at, home as home_of, rest_of, head as head_of, link_at, vacated, IsNowhere, IsOnTheWay, IsReachable, nowhere};
@@ -14,9 +14,9 @@ use std::alloc::{AllocError, Global};
 #[derive(Drop)]
 pub struct Places {
     /// A link for the keys with the same last bits. So many are a power of two, or none.
-    pub heads: Vec<u32>,
-    /// Links lead to later ones only.
-    pub nodes: Vec<Node>,
+    heads: Vec<u32>,
+    /// A node leads to later ones only, so that each way ends.
+    nodes: Vec<Node>,
 }
 
 impl Places {
@@ -40,7 +40,7 @@ impl Places {
         key as usize & self.heads.len().saturating_sub(1)
     }
 
-    /// The bits of a key by which it goes on below its head: those that didn't lead to the head.
+    /// The bits of a key by which it goes on from its head: those that didn't lead there.
     #[tactic(auto, unfolding(crate::specs::Nodes::rest_of))]
     fn rest(&self, key: u64) -> u64
         ensures { result ≡ rest_of (length self.now.heads.items) key }
@@ -256,7 +256,7 @@ impl Places {
         self.nodes[index].slot.take()
     }
 
-    /// Takes memory for so many more keys, where so many are held. If memory runs out, the slots are as they were.
+    /// Takes memory for n more keys, where so many are held. If memory runs out, the slots are as they were.
     pub(crate) fn reserve(&mut self, n: usize, held: usize) -> Result<(), AllocError>
         requires { IsSound self.old }
         ensures same { IsSame self.old self.new }
@@ -268,7 +268,8 @@ impl Places {
         self.grow(n)
     }
 
-    /// Whether there are fewer heads than nodes, or than twice the keys that are held.
+    /// Whether there are too few heads: fewer than twice the keys that are held, so that many would share one, or fewer
+    /// than the nodes, many of which hold nothing then.
     #[inline]
     fn is_crowded(&self, held: usize) -> bool
         ensures { result ≡ false → 0 < length self.now.heads.items }
@@ -291,7 +292,7 @@ impl Places {
         self.nodes.reserve(n)
     }
 
-    /// Goes over to new nodes for the keys that are held, and to more heads where these are too few for them.
+    /// Goes over to new nodes for the keys that are held, and to more heads where there are too few for them.
     #[cold]
     #[inline(never)]
     fn make_over(&mut self, held: usize) -> Result<(), AllocError>
