@@ -1,5 +1,5 @@
 -- What is kept once a key was added.
-use Rattle.std.proofs.Common.{◌≡◌, ◌≢◌, ℕ, zero, suc, ◌+◌, ◌-◌, ◌<◌, ◌≤◌, ◌%◌, Option, Some, None, IsSome, slice_get, List, [], ◌∷◌, ◌++◌, length, set, true, false, Bool, refl, sym, ap, subst, ◌∙◌, arith}
+use Rattle.std.proofs.Common.{◌≡◌, ◌≢◌, ℕ, zero, suc, ◌-◌, ◌<◌, ◌≤◌, ◌%◌, Some, None, IsSome, slice_get, List, [], ◌∷◌, ◌++◌, length, set, refl, sym, ap, subst, ◌∙◌, arith}
 use Rattle.std.specs.Prelude.{◌==◌}
 use Rattle.std.specs.Option.{option_and_then}
 use Rattle.std.proofs.lemmas.List.{length-set, length-append, get_or-set_same, get_or-set_other}
@@ -7,12 +7,12 @@ use Rattle.std.proofs.lemmas.Nat.{and_le_r}
 use Rattle.std.proofs.lemmas.Option.{slice_get_past, slice_get_within}
 use Rattle.std.specs.FinMap as map
 use Rattle.pool_arena.specs.declared.node.Node.{Node}
-use Rattle.pool_arena.specs.Nodes.{nowhere, home, head, rest_of, next, leading, fresh, filled, vacated, pair_at, pair_of, IsOf, LeadsIn, IsFound, IsKept, IsNowhere, IsOnTheWay, IsReachable}
+use Rattle.pool_arena.specs.Nodes.{nowhere, home, head, rest_of, next, leading, fresh, filled, pair_at, pair_of, LeadsIn, IsFound, IsKept, IsNowhere, IsOnTheWay, IsReachable}
 use Rattle.pool_arena.specs.Places.{slots_in}
 use Rattle.pool_arena.proofs.Keeps.{by_test}
 use Rattle.pool_arena.proofs.ReadAt.{get-set_same, get-set_other, get-push_same, get-push_other}
 use Rattle.pool_arena.proofs.Walks.{same_read, pair_of_node, apart, StayOpen, still_leads, is_of_pair, no_way}
-use Rattle.pool_arena.proofs.Slots.{either, Changes, new_or_old, slots_with, slots_without, left_over}
+use Rattle.pool_arena.proofs.Slots.{either, Changes, new_or_old, slots_with}
 
 pub home-within : (many key : ℕ) → 0 < many → home many key < many
 home-within many key some = let most = and_le_r key (many - 1) in omega (arith, most, some)

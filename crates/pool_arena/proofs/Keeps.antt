@@ -1,5 +1,5 @@
 -- What each change of the places and the slots leaves of the map.
-use Rattle.std.proofs.Common.{◌≡◌, ◌≢◌, ℕ, ◌+◌, ◌-◌, Bool, true, false, cond, nat_eq, List, [], ◌∷◌, length, get_or, Option, Some, None, IsSome, is_some, count_by, refl, sym, ap, ◌∙◌, arith, suc, add-one}
+use Rattle.std.proofs.Common.{◌≡◌, ◌≢◌, ℕ, ◌+◌, ◌-◌, Bool, true, false, cond, nat_eq, List, [], ◌∷◌, get_or, Option, Some, None, IsSome, is_some, count_by, refl, sym, ap, ◌∙◌, arith}
 use Rattle.std.proofs.lemmas.Bool.{eqb-true, eq-eqb}
 use Rattle.std.specs.Prelude.{min}
 use Rattle.std.specs.Option.{option_and_then, OnSome}
@@ -16,7 +16,7 @@ use Rattle.slab.specs.Slab.{Slab, get as slot_get, slab_len, Updates as SlotUpda
 use Rattle.slab.proofs.SlabLemmas.{Updates-with_value, ContainsKey-within}
 use Rattle.pool_arena.specs.declared.places.Places.{Places}
 use Rattle.pool_arena.specs.Places.{slots_of, spare as room}
-use Rattle.pool_arena.specs.Arena.{held, pairs_of, with_entry, with_value, AreTied, get}
+use Rattle.pool_arena.specs.Arena.{held, pairs_of, with_entry, with_value, AreTied}
 
 pub by_test : {P : Type 0} (b : Bool) → (b ≡ true → P) → (b ≡ false → P) → P
 by_test true h k = h refl

@@ -1,14 +1,13 @@
 -- The map of the slots, read from the nodes.
-use Rattle.std.proofs.Common.{◌≡◌, ◌≢◌, ℕ, zero, suc, Bool, true, false, cond, nat_eq, Option, Some, None, IsSome, is_some, slice_get, List, [], ◌∷◌, refl, sym, ap, ◌∙◌}
+use Rattle.std.proofs.Common.{◌≡◌, ◌≢◌, ℕ, zero, suc, true, false, cond, nat_eq, Option, Some, None, IsSome, is_some, List, [], ◌∷◌, refl, sym, ap, ◌∙◌}
 use Rattle.std.proofs.lemmas.Bool.{eqb-true, eq-eqb}
 use Rattle.std.proofs.lemmas.Option.{same_Some}
 use Rattle.std.specs.FinMap as map
 use Rattle.std.specs.FinMap.{get-empty}
 use Rattle.std.specs.Ordering.{nat_cmp}
 use Rattle.pool_arena.specs.declared.node.Node.{Node}
-use Rattle.pool_arena.specs.Arena.{with_entry}
 use Rattle.pool_arena.specs.Nodes.{pair_at, IsNowhere}
-use Rattle.pool_arena.specs.Places.{slots_in, with_slot}
+use Rattle.pool_arena.specs.Places.{slots_in}
 use Rattle.pool_arena.proofs.Keeps.{get-with_entry, by_test, eqb-false, same_pairs}
 use Rattle.pool_arena.proofs.Walks.{same_read}
 

@@ -4,7 +4,7 @@ use Rattle.std.proofs.lemmas.Option.{same_Some, slice_get_past}
 use Rattle.std.specs.Prelude.{◌==◌}
 use Rattle.pool_arena.proofs.Keeps.{by_test}
 use Rattle.pool_arena.specs.declared.node.Node.{Node}
-use Rattle.pool_arena.specs.Nodes.{nowhere, IsLeaf, pair_at, pair_of, next, IsOf, LeadsIn, Leads, IsFound, IsKept, IsOnTheWay}
+use Rattle.pool_arena.specs.Nodes.{nowhere, IsLeaf, pair_at, pair_of, next, IsOf, LeadsIn, Leads, IsKept, IsOnTheWay}
 
 pub same_read : {X : Type 0} (o : Option X) (x y : X) → o ≡ Some x → o ≡ Some y → x ≡ y
 same_read o x y e f = same_Some x y (sym e ∙ f)

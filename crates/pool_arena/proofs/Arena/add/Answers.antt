@@ -1,7 +1,7 @@
-use Rattle.std.proofs.Common.{◌≡◌, ap, sym, ◌∙◌, subst, arith, ℕ, None}
+use Rattle.std.proofs.Common.{◌≡◌, ap, sym, ◌∙◌, subst, arith, ℕ}
 use Rattle.std.specs.FinMap as map
 use Rattle.std.specs.Ordering.{nat_cmp}
-use Rattle.pool_arena.specs.Arena.{held, get, pairs_of, AreTied}
+use Rattle.pool_arena.specs.Arena.{held, get, AreTied}
 use Rattle.pool_arena.specs.Places.{slots_of}
 use Rattle.pool_arena.proofs.Keeps.{add-tied, add-pairs, no_place, pairs}
 use Rattle.pool_arena.proofs.Arena.add.Goals as goal

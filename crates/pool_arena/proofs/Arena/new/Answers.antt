@@ -1,5 +1,4 @@
-use Rattle.std.proofs.Common.{◌≡◌, ap, count_by, is_some, ◌∙◌}
-use Rattle.slab.specs.Slab.{slab_len}
+use Rattle.std.proofs.Common.{ap, count_by, is_some}
 use Rattle.pool_arena.specs.Places.{slots_of}
 use Rattle.pool_arena.proofs.Keeps.{empty_tied, empty-pairs}
 use Rattle.pool_arena.proofs.Arena.new.Goals as goal

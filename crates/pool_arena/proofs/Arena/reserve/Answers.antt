@@ -1,7 +1,7 @@
-use Rattle.std.proofs.Common.{ap, sym, ◌∙◌, subst, ℕ, ◌≡◌}
+use Rattle.std.proofs.Common.{ap, sym, ◌∙◌, subst, ℕ}
 use Rattle.std.specs.FinMap as map
 use Rattle.std.specs.Ordering.{nat_cmp}
-use Rattle.pool_arena.specs.Arena.{pairs_of, AreTied}
+use Rattle.pool_arena.specs.Arena.{AreTied}
 use Rattle.pool_arena.specs.Places.{slots_of}
 use Rattle.pool_arena.proofs.Keeps.{pairs, pairs_of-slots, same-tied}
 use Rattle.pool_arena.proofs.Arena.reserve.Goals as goal

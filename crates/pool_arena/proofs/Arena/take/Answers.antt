@@ -1,4 +1,4 @@
-use Rattle.std.proofs.Common.{◌≡◌, ap, sym, ◌∙◌, subst, ℕ, Option, IsSome}
+use Rattle.std.proofs.Common.{ap, sym, ◌∙◌, subst, ℕ, Option, IsSome}
 use Rattle.std.specs.FinMap as map
 use Rattle.std.specs.Option.{option_and_then}
 use Rattle.std.specs.Ordering.{nat_cmp}

@@ -1,9 +1,8 @@
 use Rattle.std.proofs.Common.{◌≡◌, ◌<◌, ◌≤◌, Some, List, slice_get, set, length, refl, sym, subst, arith, ap, ◌∙◌, ◌++◌, ◌∷◌, [], ℕ}
 use Rattle.std.proofs.lemmas.Option.{slice_get_read}
-use Rattle.std.specs.FinMap as map
 use Rattle.pool_arena.specs.declared.node.Node.{Node}
 use Rattle.pool_arena.specs.Nodes.{IsKept, leading, fresh, nowhere}
-use Rattle.pool_arena.specs.Places.{slots_in, slots_of}
+use Rattle.pool_arena.specs.Places.{slots_in}
 use Rattle.pool_arena.proofs.Slots.{no_slot}
 use Rattle.pool_arena.proofs.Found.{held_is_other, held_within, link_of_node}
 use Rattle.pool_arena.proofs.Adding.{hang-kept, hang-slots}

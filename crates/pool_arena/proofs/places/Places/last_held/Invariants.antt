@@ -1,4 +1,4 @@
-use Rattle.std.proofs.Common.{ℕ, ◌-◌, length, is_some, IsTrue}
+use Rattle.std.proofs.Common.{◌-◌, length, is_some, IsTrue}
 use Rattle.pool_arena.specs.Nodes.{IsOnTheWay, head, rest_of, pair_at}
 use Rattle.pool_arena.proofs.places.Places.last_held.Given as goal
 

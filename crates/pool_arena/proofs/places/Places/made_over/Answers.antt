@@ -1,9 +1,9 @@
-use Rattle.std.proofs.Common.{◌≡◌, ◌+◌, ◌<◌, ◌≤◌, Some, None, ℕ, List, slice_get, slice_index_or, length, get_or, subst, sym, ap, ◌∙◌, arith}
+use Rattle.std.proofs.Common.{◌≡◌, ◌+◌, ◌<◌, ◌≤◌, Some, None, ℕ, List, slice_get, length, get_or, subst, sym, ap, ◌∙◌, arith}
 use Rattle.std.proofs.lemmas.Option.{slice_get-get_or}
 use Rattle.std.specs.FinMap as map
 use Rattle.std.specs.Ordering.{nat_cmp}
 use Rattle.pool_arena.specs.declared.node.Node.{Node}
-use Rattle.pool_arena.specs.Places.{slots_of, spare}
+use Rattle.pool_arena.specs.Places.{slots_of}
 use Rattle.pool_arena.proofs.Walks.{apart}
 use Rattle.pool_arena.proofs.Copying.{HasFirst, has_none, has_more, has_all, not_yet}
 use Rattle.pool_arena.proofs.places.Places.made_over.Goals as goal

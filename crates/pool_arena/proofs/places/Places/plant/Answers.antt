@@ -1,10 +1,9 @@
-use Rattle.std.proofs.Common.{◌≡◌, ◌<◌, Some, List, slice_get, set, length, refl, sym, subst, arith, ap, ◌∙◌, ◌++◌, ◌∷◌, [], ℕ, length-set}
-use Rattle.std.specs.FinMap as map
+use Rattle.std.proofs.Common.{◌≡◌, ◌<◌, List, set, length, sym, subst, arith, ap, ◌∙◌, ◌++◌, ◌∷◌, [], ℕ, length-set}
 use Rattle.pool_arena.specs.declared.node.Node.{Node}
 use Rattle.pool_arena.specs.Nodes.{IsKept, fresh, nowhere, home}
-use Rattle.pool_arena.specs.Places.{slots_in, slots_of}
+use Rattle.pool_arena.specs.Places.{slots_in}
 use Rattle.pool_arena.proofs.Slots.{no_slot}
-use Rattle.pool_arena.proofs.Adding.{plant-kept, plant-slots, home-within}
+use Rattle.pool_arena.proofs.Adding.{plant-kept, plant-slots}
 use Rattle.pool_arena.proofs.places.Places.plant.Goals as goal
 
 pub returns : goal.returns

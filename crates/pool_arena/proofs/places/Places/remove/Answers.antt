@@ -1,5 +1,4 @@
-use Rattle.std.proofs.Common.{◌≡◌, List, set, sym, ◌∙◌, subst, ℕ, ◌<◌, length, ap}
-use Rattle.std.specs.FinMap as map
+use Rattle.std.proofs.Common.{List, sym, ◌∙◌, subst, ℕ, ◌<◌, length, ap}
 use Rattle.pool_arena.specs.declared.node.Node.{Node}
 use Rattle.pool_arena.specs.Nodes.{IsKept}
 use Rattle.pool_arena.specs.Places.{slots_in, slots_of}

@@ -1,4 +1,4 @@
-use Rattle.std.proofs.Common.{◌≡◌, Some, None, slice_get, length, ◌<◌, ◌/◌, ap, sym, arith, subst, ℕ}
+use Rattle.std.proofs.Common.{Some, length, ◌<◌, ◌/◌, ap, sym, arith, subst, ℕ}
 use Rattle.std.proofs.lemmas.Option.{slice_get_within}
 use Rattle.pool_arena.specs.Nodes.{Leads, next}
 use Rattle.pool_arena.proofs.Walks.{goes_on, stops, no_way, next_rises}
