@@ -4,8 +4,8 @@
 ghost use Rattle.std.specs.Prelude.{◌≡◌, ◌≤◌, ◌<◌, ◌+◌, ℕ, min, false, IsTrue, Some, None, IfSome, IfOk, option_copied, OnOk, length, slice_get, is_some, set};
 ghost use Rattle.std.specs.FinMap as map;
 ghost use Rattle.pool_arena.specs.declared.node.Node.{Node};
-ghost use Rattle.pool_arena.specs.Nodes.{IsKept, IsFound, IsOf, pair_at, home as home_of, rest_of, head as head_of, link_at, vacated, IsNowhere, IsOnTheWay, IsReachable, nowhere};
-ghost use Rattle.pool_arena.specs.Places.{IsSound, CanAdd, IsAdded, IsSame, with_slot, slots_of, spare};
+ghost use Rattle.pool_arena.specs.Nodes.{IsOf, home as home_of, rest_of, vacated, nowhere};
+ghost use Rattle.pool_arena.specs.Places.{IsSound, GetsTo, IsHeldAt, IsOnWay, CanReach, CanAdd, IsAdded, IsSame, head_of, link_of, holds, with_slot, slots_of, spare};
 
 use crate::node::{NOWHERE, Node};
 use std::alloc::{AllocError, Global};
@@ -51,7 +51,7 @@ impl Places {
     /// The link at the head of a key.
     #[inline]
     fn head(&self, key: u64) -> usize
-        ensures { result ≡ head_of self.now.heads.items key }
+        ensures { result ≡ head_of self.now key }
     {
         match self.heads.get(self.home(key)) {
             Some(link) => *link as usize,
@@ -70,7 +70,7 @@ impl Places {
     /// Whether the node at an index holds a key.
     #[inline]
     fn is_held(&self, index: usize) -> bool
-        ensures { result ≡ is_some (pair_at self.now.nodes.items index) }
+        ensures { result ≡ is_some (holds self.now index) }
     {
         match self.node(index) {
             Some(node) => node.slot.is_some(),
@@ -81,9 +81,9 @@ impl Places {
     /// The node of a key, which may hold it or have held it. Where a key is held, it is at this one.
     #[inline]
     fn find(&self, key: u64) -> Option<usize>
-        requires { IsKept self.now.heads.items self.now.nodes.items }
+        requires { IsSound self.now }
         ensures own { IfSome result (λ index. IsOf self.now.nodes.items key index) }
-        ensures found { (index : ℕ) → IsFound self.now.heads.items self.now.nodes.items key index → result ≡ Some index }
+        ensures found { (index : ℕ) → GetsTo self.now key index → result ≡ Some index }
     {
         let first = self.head(key);
         match self.node(first) {
@@ -98,10 +98,10 @@ impl Places {
     #[cold]
     #[inline(never)]
     fn search(&self, key: u64, first: usize) -> Option<usize>
-        requires head { first ≡ head_of self.now.heads.items key }
-        requires kept { IsKept self.now.heads.items self.now.nodes.items }
+        requires head { first ≡ head_of self.now key }
+        requires sound { IsSound self.now }
         ensures own { IfSome result (λ index. IsOf self.now.nodes.items key index) }
-        ensures found { (index : ℕ) → IsFound self.now.heads.items self.now.nodes.items key index → result ≡ Some index }
+        ensures found { (index : ℕ) → GetsTo self.now key index → result ≡ Some index }
     {
         let mut link = first;
         let mut rest = self.rest(key);
@@ -157,7 +157,7 @@ impl Places {
     #[inline(never)]
     fn insert_below(&mut self, key: u64, slot: usize)
         requires can_add { CanAdd self.old key }
-        requires taken { IsTrue (is_some (pair_at self.old.nodes.items (head_of self.old.heads.items key))) }
+        requires taken { IsHeldAt self.old (head_of self.old key) }
         ensures { IsAdded self.old self.new key slot }
     {
         let (last, rest) = self.last_held(key);
@@ -171,12 +171,11 @@ impl Places {
 
     /// The last node that holds a key on the way of this one, and the bits by which it goes on from there.
     fn last_held(&self, key: u64) -> (usize, u64)
-        requires kept { IsKept self.now.heads.items self.now.nodes.items }
-        requires elsewhere { IsNowhere self.now.nodes.items key }
-        requires taken { IsTrue (is_some (pair_at self.now.nodes.items (head_of self.now.heads.items key))) }
-        ensures held { IsTrue (is_some (pair_at self.now.nodes.items result.0)) }
-        ensures way { IsOnTheWay self.now.nodes.items key (head_of self.now.heads.items key) (rest_of (length self.now.heads.items) key) result.0 result.1 }
-        ensures last { pair_at self.now.nodes.items (link_at self.now.nodes.items result.0 result.1) ≡ None }
+        requires can_add { CanAdd self.now key }
+        requires taken { IsHeldAt self.now (head_of self.now key) }
+        ensures held { IsHeldAt self.now result.0 }
+        ensures way { IsOnWay self.now key result.0 result.1 }
+        ensures last { holds self.now (link_of self.now result.0 result.1) ≡ None }
     {
         let mut index = self.head(key);
         let mut rest = self.rest(key);
@@ -189,8 +188,8 @@ impl Places {
 
     /// The link that a key with these bits follows from a node.
     fn link(&self, index: usize, rest: u64) -> usize
-        requires { IsTrue (is_some (pair_at self.now.nodes.items index)) }
-        ensures { result ≡ link_at self.now.nodes.items index rest }
+        requires { IsHeldAt self.now index }
+        ensures { result ≡ link_of self.now index rest }
     {
         self.nodes[index].next(rest) as usize
     }
@@ -200,8 +199,8 @@ impl Places {
     fn fill(&mut self, index: usize, key: u64, slot: usize)
         requires can_add { CanAdd self.old key }
         requires within { index < length self.old.nodes.items }
-        requires vacant { pair_at self.old.nodes.items index ≡ None }
-        requires reachable { IsReachable self.old.heads.items self.old.nodes.items key index }
+        requires vacant { holds self.old index ≡ None }
+        requires reachable { CanReach self.old key index }
         ensures { IsAdded self.old self.new key slot }
     {
         self.nodes[index].fill(key, slot);
@@ -210,7 +209,7 @@ impl Places {
     /// Adds a key at its head, which leads nowhere.
     fn plant(&mut self, key: u64, slot: usize)
         requires can_add { CanAdd self.old key }
-        requires gap { length self.old.nodes.items ≤ head_of self.old.heads.items key }
+        requires gap { length self.old.nodes.items ≤ head_of self.old key }
         ensures { IsAdded self.old self.new key slot }
     {
         let home = self.home(key);
@@ -221,9 +220,9 @@ impl Places {
     /// Adds a key behind the last node on its way, which leads nowhere by these bits.
     fn hang(&mut self, last: usize, rest: u64, key: u64, slot: usize)
         requires can_add { CanAdd self.old key }
-        requires held { IsTrue (is_some (pair_at self.old.nodes.items last)) }
-        requires way { IsOnTheWay self.old.nodes.items key (head_of self.old.heads.items key) (rest_of (length self.old.heads.items) key) last rest }
-        requires gap { length self.old.nodes.items ≤ link_at self.old.nodes.items last rest }
+        requires held { IsHeldAt self.old last }
+        requires way { IsOnWay self.old key last rest }
+        requires gap { length self.old.nodes.items ≤ link_of self.old last rest }
         ensures { IsAdded self.old self.new key slot }
     {
         let link = self.nodes.len() as u32;
@@ -268,14 +267,15 @@ impl Places {
         self.grow(n)
     }
 
-    /// Whether there are too few heads: fewer than twice the keys that are held, so that many would share one, or fewer
-    /// than the nodes, many of which hold nothing then.
+    /// Whether there are fewer heads than four times the keys that are held, so that many would share one, or more nodes
+    /// that hold nothing than keys, so that memory is lost. A few of these, or few beside the heads, do no harm.
     #[inline]
     fn is_crowded(&self, held: usize) -> bool
         ensures { result ≡ false → 0 < length self.now.heads.items }
     {
         let heads = self.heads.len();
-        heads / 2 <= held || heads < self.nodes.len()
+        let vacant = self.nodes.len().saturating_sub(held);
+        heads / 4 <= held || vacant > held.max(heads / 8).max(64)
     }
 
     /// Takes memory for so many more nodes.
@@ -310,7 +310,7 @@ impl Places {
         ensures { IfOk result (λ heads. 0 < heads) }
     {
         let heads = self.heads.len();
-        if held < heads / 2 {
+        if held < heads / 4 {
             return Ok(heads);
         }
         heads.max(4).checked_mul(2).ok_or(AllocError)

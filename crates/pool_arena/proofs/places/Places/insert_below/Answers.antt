@@ -4,9 +4,6 @@ use Rattle.pool_arena.proofs.Slots.{no_slot}
 use Rattle.pool_arena.proofs.Found.{reachable}
 use Rattle.pool_arena.proofs.places.Places.insert_below.Goals as goal
 
-pub last_held-last-requires-clause-elsewhere : goal.last_held-last-requires-clause-elsewhere
-last_held-last-requires-clause-elsewhere c = no_slot c.args.self.now.nodes.items c.args.key c.requires.can_add.vacant
-
 pub fill-requires-clause-reachable : goal.fill-requires-clause-reachable
 fill-requires-clause-reachable c =
     let heads = c.args.self.now.heads.items in

@@ -11,7 +11,7 @@ returns-then-node-key-clause-found c i found =
 
 pub loop-node-smaller : goal.loop-node-smaller
 loop-node-smaller c =
-    let rises : c.loop-node.link < next c.loop-node.rest c.in-Some.node.now = next_rises c.loop-node.rest c.in-Some.node.now c.loop-node.link (c.requires.kept.rising c.loop-node.link c.in-Some.node.now (sym c.in-Some.ensures)) in
+    let rises : c.loop-node.link < next c.loop-node.rest c.in-Some.node.now = next_rises c.loop-node.rest c.in-Some.node.now c.loop-node.link (c.requires.sound.kept.rising c.loop-node.link c.in-Some.node.now (sym c.in-Some.ensures)) in
     let within : c.loop-node.link < length c.args.self.now.nodes.items = slice_get_within _ c.loop-node.link c.in-Some.node.now (sym c.in-Some.ensures) in
     omega (arith, c.next-link.ensures)
 
