@@ -3,6 +3,7 @@
 
 mod lane;
 mod node;
+mod picking;
 mod ready;
 mod ring;
 #[cfg(test)]

@@ -51,6 +51,34 @@ struct Place {
     next: Option<Obj>,
 }
 
+/// What a walk over the rotation tells.
+#[derive(Clone, Copy)]
+enum Walked {
+    /// It met the first event that comes.
+    Met(ReadyEvent),
+    /// It passed all of them, and none comes.
+    Ended,
+    /// It stopped before, and none that it passed comes.
+    Stopped,
+}
+
+impl Walked {
+    ghost use Rattle.fd_events.specs.Picking.{met};
+
+    /// The event that it met.
+    fn met(self) -> Option<ReadyEvent>
+        ensures { result ≡ met self }
+    {
+        match self {
+            Walked::Met(event) => Some(event),
+            Walked::Ended | Walked::Stopped => None,
+        }
+    }
+}
+
+/// So many events are looked at, however few descriptors are ready, before the first one is found from these.
+const A_FEW: usize = 8;
+
 /// The object of this number, where there is one.
 fn obj(number: Option<u64>) -> Option<Obj>
     ensures { result ≡ option_map numbered number }
@@ -73,10 +101,12 @@ fn push_want(out: &mut Vec<Want>, watch: Watch) -> Result<(), Memory>
 }
 
 impl Ring {
-    ghost use Rattle.std.specs.Prelude.{◌+◌, ◌<◌, ◌≤◌, ◌↔◌, IsTrue, OnErr, length, slice_get, false};
+    ghost use Rattle.std.specs.Prelude.{◌+◌, ◌<◌, ◌≤◌, ◌↔◌, IsTrue, OnErr, length, slice_get, true, false};
     ghost use Rattle.tree_specs.specs.Events.Rotation.{watch_of, is_watching, flags_of, holder_of, is_watched, watched, unwatched, rewatched, flagged, closing, turned_back, first_ready};
     ghost use Rattle.fd_events.specs.Rotation.{AreEventsOnce, AreDescriptorsOnce, ready_event};
     ghost use Rattle.fd_events.specs.Linked.{from_on, IsPlace};
+    ghost use Rattle.fd_events.specs.Picking.{IsWalked};
+    ghost use Rattle.tree_specs.specs.Words.Wants.{rises};
 
     /// No events.
     pub fn new(alloc: Global) -> Ring
@@ -87,6 +117,7 @@ impl Ring {
                 nodes: Arena::new(alloc),
                 newest: None,
                 oldest: None,
+                next_stamp: 0,
             },
             holders: Arena::new(alloc),
         }
@@ -118,6 +149,7 @@ impl Ring {
             older: None,
         };
         let closes = false;
+        let stamp = 0;
         self.holders.add(u64::from(fd), x.0);
         self.lane.nodes.add(
             x.0,
@@ -126,6 +158,7 @@ impl Ring {
                 flags,
                 closes,
                 sides,
+                stamp,
             },
         );
         self.lane.join(x.0);
@@ -222,26 +255,42 @@ impl Ring {
         self.watch(oldest)
     }
 
+    /// Looks at so many events, the oldest first.
+    fn walk(&self, ready: &[Want], steps: usize) -> Walked
+        requires { rises ready.now ≡ true }
+        ensures { IsWalked self.now.watches ready.now steps result }
+    {
+        let mut at = self.oldest();
+        for _ in 0..steps {
+            let Some(x) = at else {
+                return Walked::Ended;
+            };
+            let Some(Place { watch, next }) = self.place(x) else {
+                return Walked::Ended;
+            };
+            if let Some(event) = ReadyEvent::of(watch, ready_for(ready, watch.fd)) {
+                return Walked::Met(event);
+            }
+            at = next;
+        }
+        Walked::Stopped
+    }
+
     /// The first event that is watched for something that its descriptor is ready for, and what that is. None exactly
-    /// where there is none. It takes the time of the events that it passes, times the logarithm of how many descriptors
-    /// are ready.
+    /// where there is none. It takes the time of the descriptors that are ready, times the logarithm of how many they
+    /// are, however many events aren't. (Once 2 ^ 64 - 1 events have been added or put behind all others, it takes the
+    /// time of the events that it passes.)
     pub fn first_ready(&self, ready: &Wants) -> Option<ReadyEvent>
         ensures { result ≡ option_map ready_event (first_ready self.now.watches ready.now) }
     {
         let ready = ready.as_slice();
-        let mut at = self.oldest();
-        while let Some(x) = at {
-            let Place { watch, next } = self.place(x)?;
-            let flags = watch.flags & ready_for(ready, watch.fd);
-            if flags != 0 {
-                return Some(ReadyEvent {
-                    object: watch.object,
-                    flags,
-                });
-            }
-            at = next;
+        if !self.lane.is_stamped() {
+            return self.walk(ready, self.len()).met();
         }
-        None
+        match self.walk(ready, ready.len().max(A_FEW)) {
+            Walked::Stopped => self.lane.first_coming(&self.holders, ready),
+            walked => walked.met(),
+        }
     }
 
     /// Adds the descriptors that are watched for something, and what for, in the order of the rotation.
