@@ -18,7 +18,7 @@ use Rattle.fd_events.proofs.Nodes.{tells}
 use Rattle.fd_events.proofs.Holding.{holder-watch}
 use Rattle.fd_events.proofs.Stamps.{RiseFrom, or_zero, stamp_in, fall-rise}
 use Rattle.fd_events.proofs.Keeping.{linked-keeps, watch-kept, once-kept}
-use Rattle.fd_events.proofs.Growing.{new-one, more-by-one}
+use Rattle.fd_events.proofs.Growing.{new-one, one-more-ready}
 use Rattle.fd_events.proofs.Coming.{coming_of, one_coming, first_coming, one-more}
 
 abbrev object_of : Watch → Obj
@@ -62,8 +62,10 @@ module _ (l : Lane) (h : map.FinMap nat_cmp ℕ) (k : IsLinked l h) where
   coming-kept v = holder-coming v.flags (map.get h v.fd) _ (k.noted.holder v.fd) (own-watch v.fd)
 
   -- the first that comes, once one more descriptor is looked at
-  pub one-more-kept : AreStamps l → (vs : List Want) (i : ℕ) (v : Want) → rises vs ≡ true → i < length vs → ((d : Want) → v ≡ get_or vs i d)
-      → first_coming (stamp_by l) (ready_for (take (suc i) vs)) (watches_in l) ≡ sooner (first_coming (stamp_by l) (ready_for (take i vs)) (watches_in l)) (coming_for l.nodes.pairs h v)
-  one-more-kept b vs i v e m is =
-      one-more (stamp_by l) (ready_for (take i vs)) (ready_for (take (suc i) vs)) v.fd v.flags (more-by-one vs i v e m is) (new-one vs i v e m is) 0 (watches_in l) k.noted.once (rise-kept b)
+  pub one-more-kept : AreStamps l → (vs : List Want) (i : ℕ) (d : Want) → rises vs ≡ true → i < length vs
+      → first_coming (stamp_by l) (ready_for (take (suc i) vs)) (watches_in l)
+      ≡ sooner (first_coming (stamp_by l) (ready_for (take i vs)) (watches_in l)) (coming_for l.nodes.pairs h (get_or vs i d))
+  one-more-kept b vs i d e m =
+      let v : Want = get_or vs i d in
+      one-more (stamp_by l) (ready_for (take i vs)) (ready_for (take (suc i) vs)) v.fd v.flags (one-more-ready d vs i e m) (new-one d vs i e m) 0 (watches_in l) k.noted.once (rise-kept b)
       ∙ ap (sooner (first_coming (stamp_by l) (ready_for (take i vs)) (watches_in l))) (sym (coming-kept v))
