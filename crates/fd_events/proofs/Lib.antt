@@ -5,6 +5,6 @@ pub mod Stamps
 pub mod Keeping
 pub mod Walking
 pub mod Searching
-pub mod Coming
+pub mod Soonest
 pub mod Growing
 pub mod Stamped

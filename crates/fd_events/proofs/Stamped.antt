@@ -19,7 +19,7 @@ use Rattle.fd_events.proofs.Holding.{holder-watch}
 use Rattle.fd_events.proofs.Stamps.{RiseFrom, or_zero, stamp_in, fall-rise}
 use Rattle.fd_events.proofs.Keeping.{linked-keeps, watch-kept, once-kept}
 use Rattle.fd_events.proofs.Growing.{new-one, one-more-ready}
-use Rattle.fd_events.proofs.Coming.{coming_of, one_coming, first_coming, one-more}
+use Rattle.fd_events.proofs.Soonest.{coming_of, one_coming, first_coming, one-more}
 
 abbrev object_of : Watch → Obj
 object_of w = w.object

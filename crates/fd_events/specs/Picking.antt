@@ -7,10 +7,10 @@ use Rattle.tree_specs.specs.declared.watch.Watch.{Watch}
 use Rattle.tree_specs.specs.declared.wants.Want.{Want}
 use Rattle.tree_specs.specs.Events.Rotation.{first_ready}
 use Rattle.fd_events.specs.declared.node.Node.{Node}
-use Rattle.fd_events.specs.declared.picking.Coming.{Coming}
+use Rattle.fd_events.specs.declared.coming.Coming.{Coming}
 use Rattle.fd_events.specs.declared.ready.ReadyEvent.{ReadyEvent}
-use Rattle.fd_events.specs.declared.ring.Walked.{Walked}
-use Rattle.fd_events.specs.declared.ring.Walked.TheVariants.{Met, Ended, Stopped}
+use Rattle.fd_events.specs.declared.ring.picking.Walked.{Walked}
+use Rattle.fd_events.specs.declared.ring.picking.Walked.TheVariants.{Met, Ended, Stopped}
 use Rattle.fd_events.specs.Rotation.{ready_event}
 use Rattle.fd_events.specs.Linked.{watching}
 

@@ -1,9 +1,9 @@
 //! The events on descriptors (`tevent_add_fd`), in the rotation in which a loop looks at them.
 #![tactic(auto)]
 
+mod coming;
 mod lane;
 mod node;
-mod picking;
 mod ready;
 mod ring;
 #[cfg(test)]

@@ -4,7 +4,8 @@
 //! Contracts see the list of how each event watches, the one that is looked at first in front, and for how many more
 //! there is memory (`spare`).
 //!
-//! Read on in `lane.rt` and `node.rt`, which keep the order, and in `ready.rt`.
+//! Read on in `lane.rt` and `node.rt`, which keep the order, and in `ring/picking.rt`, which finds the first event that
+//! comes.
 ghost use Rattle.std.specs.Prelude.{◌≡◌, ◌++◌, ◌∷◌, [], OnOk};
 ghost use Rattle.std.specs.Option.{option_map};
 ghost use Rattle.tree_specs.specs.Events.Rotation.{wanted_of};
@@ -12,12 +13,13 @@ ghost use Rattle.fd_events.specs.Linked.{numbered};
 
 use crate::lane::Lane;
 use crate::node::{Node, set_closing, set_flags};
-use crate::ready::{ReadyEvent, ready_for};
 use linked_lanes::Sides;
 use pool_arena::Arena;
 use std::alloc::Global;
 use std::marker::Model;
-use tree_specs::{Memory, Obj, Want, Wants, Watch};
+use tree_specs::{Memory, Obj, Want, Watch};
+
+mod picking;
 
 /// The events on descriptors (`tevent_add_fd`), in the order in which a loop looks at them: one that has come goes to
 /// the end. Contracts see the list of how each watches, and spare: so many can be added without taking memory. Each
@@ -51,34 +53,6 @@ struct Place {
     next: Option<Obj>,
 }
 
-/// What a walk over the rotation tells.
-#[derive(Clone, Copy)]
-enum Walked {
-    /// It met the first event that comes.
-    Met(ReadyEvent),
-    /// It passed all of them, and none comes.
-    Ended,
-    /// It stopped before, and none that it passed comes.
-    Stopped,
-}
-
-impl Walked {
-    ghost use Rattle.fd_events.specs.Picking.{met};
-
-    /// The event that it met.
-    fn met(self) -> Option<ReadyEvent>
-        ensures { result ≡ met self }
-    {
-        match self {
-            Walked::Met(event) => Some(event),
-            Walked::Ended | Walked::Stopped => None,
-        }
-    }
-}
-
-/// So many events are looked at, however few descriptors are ready, before the first one is found from these.
-const A_FEW: usize = 8;
-
 /// The object of this number, where there is one.
 fn obj(number: Option<u64>) -> Option<Obj>
     ensures { result ≡ option_map numbered number }
@@ -101,12 +75,10 @@ fn push_want(out: &mut Vec<Want>, watch: Watch) -> Result<(), Memory>
 }
 
 impl Ring {
-    ghost use Rattle.std.specs.Prelude.{◌+◌, ◌<◌, ◌≤◌, ◌↔◌, IsTrue, OnErr, length, slice_get, true, false};
-    ghost use Rattle.tree_specs.specs.Events.Rotation.{watch_of, is_watching, flags_of, holder_of, is_watched, watched, unwatched, rewatched, flagged, closing, turned_back, first_ready};
-    ghost use Rattle.fd_events.specs.Rotation.{AreEventsOnce, AreDescriptorsOnce, ready_event};
+    ghost use Rattle.std.specs.Prelude.{◌+◌, ◌<◌, ◌≤◌, ◌↔◌, IsTrue, OnErr, length, slice_get, false};
+    ghost use Rattle.tree_specs.specs.Events.Rotation.{watch_of, is_watching, flags_of, holder_of, is_watched, watched, unwatched, rewatched, flagged, closing, turned_back};
+    ghost use Rattle.fd_events.specs.Rotation.{AreEventsOnce, AreDescriptorsOnce};
     ghost use Rattle.fd_events.specs.Linked.{from_on, IsPlace};
-    ghost use Rattle.fd_events.specs.Picking.{IsWalked};
-    ghost use Rattle.tree_specs.specs.Words.Wants.{rises};
 
     /// No events.
     pub fn new(alloc: Global) -> Ring
@@ -253,44 +225,6 @@ impl Ring {
     {
         let oldest = self.oldest()?;
         self.watch(oldest)
-    }
-
-    /// Looks at so many events, the oldest first.
-    fn walk(&self, ready: &[Want], steps: usize) -> Walked
-        requires { rises ready.now ≡ true }
-        ensures { IsWalked self.now.watches ready.now steps result }
-    {
-        let mut at = self.oldest();
-        for _ in 0..steps {
-            let Some(x) = at else {
-                return Walked::Ended;
-            };
-            let Some(Place { watch, next }) = self.place(x) else {
-                return Walked::Ended;
-            };
-            if let Some(event) = ReadyEvent::of(watch, ready_for(ready, watch.fd)) {
-                return Walked::Met(event);
-            }
-            at = next;
-        }
-        Walked::Stopped
-    }
-
-    /// The first event that is watched for something that its descriptor is ready for, and what that is. None exactly
-    /// where there is none. It takes the time of the descriptors that are ready, times the logarithm of how many they
-    /// are, however many events aren't. (Once 2 ^ 64 - 1 events have been added or put behind all others, it takes the
-    /// time of the events that it passes.)
-    pub fn first_ready(&self, ready: &Wants) -> Option<ReadyEvent>
-        ensures { result ≡ option_map ready_event (first_ready self.now.watches ready.now) }
-    {
-        let ready = ready.as_slice();
-        if !self.lane.is_stamped() {
-            return self.walk(ready, self.len()).met();
-        }
-        match self.walk(ready, ready.len().max(A_FEW)) {
-            Walked::Stopped => self.lane.first_coming(&self.holders, ready),
-            walked => walked.met(),
-        }
     }
 
     /// Adds the descriptors that are watched for something, and what for, in the order of the rotation.

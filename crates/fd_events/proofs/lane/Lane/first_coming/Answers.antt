@@ -1,13 +1,13 @@
-use Rattle.std.proofs.Common.{◌≡◌, ℕ, ◌≤◌, List, [], length, Option, Some, None, take, add-one, sym, ap, ◌∙◌}
+use Rattle.std.proofs.Common.{◌≡◌, ℕ, ◌≤◌, List, [], length, Option, Some, None, take, add-one, refl, sym, ap, ◌∙◌}
 use Rattle.std.specs.Option.{option_map}
 use Rattle.std.proofs.lemmas.List.{take_all}
 use Rattle.tree_specs.specs.declared.wants.Want.{Want}
 use Rattle.tree_specs.specs.Events.Rotation.{ready_for}
-use Rattle.fd_events.specs.declared.picking.Coming.{Coming}
+use Rattle.fd_events.specs.declared.coming.Coming.{Coming}
 use Rattle.fd_events.specs.declared.lane.Lane.{Lane}
 use Rattle.fd_events.specs.Linked.{watches_in}
 use Rattle.fd_events.specs.Picking.{first_event, sooner}
-use Rattle.fd_events.proofs.Coming.{event_of, first_coming, first-none, first-all}
+use Rattle.fd_events.proofs.Soonest.{event_of, first_coming, first-none, first-all}
 use Rattle.fd_events.proofs.Stamped.{stamp_by, one-more-kept}
 use Rattle.fd_events.proofs.lane.Lane.first_coming.Goals as goal
 

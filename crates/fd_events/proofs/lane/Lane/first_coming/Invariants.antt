@@ -1,7 +1,7 @@
 use Rattle.std.proofs.Common.{◌≡◌, take}
 use Rattle.tree_specs.specs.Events.Rotation.{ready_for}
 use Rattle.fd_events.specs.Linked.{watches_in}
-use Rattle.fd_events.proofs.Coming.{first_coming}
+use Rattle.fd_events.proofs.Soonest.{first_coming}
 use Rattle.fd_events.proofs.Stamped.{stamp_by}
 use Rattle.fd_events.proofs.lane.Lane.first_coming.Given as goal
 

@@ -1,5 +1,5 @@
-//! The first event that comes, found from the descriptors that are ready, however many events aren't. The stamps tell
-//! which of those that come stands first in the rotation.
+//! An event that comes, found by its descriptor, and the first of those that are found so. A stamp tells which of two
+//! stands before the other in the rotation.
 ghost use Rattle.std.specs.Prelude.{◌≡◌, true};
 ghost use Rattle.tree_specs.specs.Words.Wants.{rises};
 ghost use Rattle.fd_events.specs.Linked.{AreStamps, IsLinked, watches_in};
@@ -42,7 +42,7 @@ impl Lane {
         })
     }
 
-    /// The first event that comes. It takes the time of the descriptors that are ready.
+    /// The first event that comes. It takes the time of the descriptors that are ready, however many events aren't.
     pub(crate) fn first_coming(&self, holders: &Arena<u64>, ready: &[Want]) -> Option<ReadyEvent>
         requires linked { IsLinked self.now holders.now.pairs }
         requires stamps { AreStamps self.now }
