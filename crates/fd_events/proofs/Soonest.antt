@@ -6,11 +6,11 @@ use Rattle.std.specs.Option.{option_map, option_or}
 use Rattle.std.proofs.lemmas.Bool.{eqb-true, eq-eqb, ltb-true, ltb-false}
 use Rattle.tree_specs.specs.declared.watch.Watch.{Watch}
 use Rattle.tree_specs.specs.declared.wants.Want.{Want}
-use Rattle.tree_specs.specs.Events.Rotation.{ready_for, first_ready}
+use Rattle.tree_specs.specs.Events.Rotation.{ready_for}
 use Rattle.linked_lanes.proofs.Lanes.{by_test, eqb-sym}
 use Rattle.fd_events.specs.declared.coming.Coming.{Coming}
 use Rattle.fd_events.specs.declared.ready.ReadyEvent.{ReadyEvent}
-use Rattle.fd_events.specs.Rotation.{AreDescriptorsOnce, ready_event}
+use Rattle.fd_events.specs.Rotation.{AreDescriptorsOnce}
 use Rattle.fd_events.specs.Picking.{ready_by, stamped, sooner, first_event}
 use Rattle.fd_events.proofs.Stamps.{RiseFrom}
 

@@ -12,7 +12,7 @@ use Rattle.tree_specs.specs.Words.Wants.{rises}
 use Rattle.tree_specs.specs.Events.Rotation.{ready_for}
 use Rattle.fd_events.specs.declared.node.Node.{Node}
 use Rattle.fd_events.specs.declared.lane.Lane.{Lane}
-use Rattle.fd_events.specs.Linked.{numbered, stamp_of, stamp_at, watch_at, watching, numbers_in, watches_in, AreStamps, IsLinked}
+use Rattle.fd_events.specs.Linked.{numbered, stamp_of, stamp_at, watch_at, watching, numbers_in, watches_in, HasStampsLeft, IsLinked}
 use Rattle.fd_events.specs.Picking.{ready_by, stamped, coming_by, coming_for, sooner}
 use Rattle.fd_events.proofs.Nodes.{tells}
 use Rattle.fd_events.proofs.Holding.{holder-watch}
@@ -28,7 +28,7 @@ abbrev pub stamp_by : Lane → Watch → ℕ
 stamp_by l w = stamp_in (stamp_at l.nodes.pairs) w
 
 module _ (l : Lane) (h : map.FinMap nat_cmp ℕ) (k : IsLinked l h) where
-  rise-kept : AreStamps l → RiseFrom (stamp_by l) 0 (watches_in l)
+  rise-kept : HasStampsLeft l → RiseFrom (stamp_by l) 0 (watches_in l)
   rise-kept b =
       subst (RiseFrom (stamp_by l) 0) (append-nil (watches_in l))
       (fall-rise (watch_at l.nodes.pairs) (stamp_at l.nodes.pairs) (tells l.nodes.pairs) l.next_stamp (numbers_in l) [] (k.lane.stamps b) tt)
@@ -62,7 +62,7 @@ module _ (l : Lane) (h : map.FinMap nat_cmp ℕ) (k : IsLinked l h) where
   coming-kept v = holder-coming v.flags (map.get h v.fd) _ (k.noted.holder v.fd) (own-watch v.fd)
 
   -- the first that comes, once one more descriptor is looked at
-  pub one-more-kept : AreStamps l → (vs : List Want) (i : ℕ) (d : Want) → rises vs ≡ true → i < length vs
+  pub one-more-kept : HasStampsLeft l → (vs : List Want) (i : ℕ) (d : Want) → rises vs ≡ true → i < length vs
       → first_coming (stamp_by l) (ready_for (take (suc i) vs)) (watches_in l)
       ≡ sooner (first_coming (stamp_by l) (ready_for (take i vs)) (watches_in l)) (coming_for l.nodes.pairs h (get_or vs i d))
   one-more-kept b vs i d e m =

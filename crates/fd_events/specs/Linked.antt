@@ -70,9 +70,9 @@ watches_in l = listed (watch_at l.nodes.pairs) (numbers_in l)
 
 -- ---- the stamps
 
--- stamps are given as long as there is a greater number
-abbrev pub AreStamps : Lane → Type 0
-AreStamps l = l.next_stamp < 2 ^ 64 - 1
+-- there is a greater number than each stamp that was given
+abbrev pub HasStampsLeft : Lane → Type 0
+HasStampsLeft l = l.next_stamp < 2 ^ 64 - 1
 
 -- the newest has a stamp below n, and each of the others has one below that of the next newer one
 abbrev pub FallFrom : (ℕ → Option ℕ) → ℕ → List ℕ → Type 0
@@ -86,7 +86,7 @@ pub record IsLane (l : Lane) (xs : List ℕ) : Type 0 where
   pub distinct : Distinct xs
   pub chain : Chain (sides_at l.nodes.pairs) l.newest xs
   pub at_last : l.oldest ≡ last xs
-  pub stamps : AreStamps l → FallFrom (stamp_at l.nodes.pairs) l.next_stamp xs
+  pub stamps : HasStampsLeft l → FallFrom (stamp_at l.nodes.pairs) l.next_stamp xs
 
 abbrev pub number_of : Obj → ℕ
 number_of x = x.0

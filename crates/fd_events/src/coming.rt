@@ -2,7 +2,7 @@
 //! stands before the other in the rotation.
 ghost use Rattle.std.specs.Prelude.{◌≡◌, true};
 ghost use Rattle.tree_specs.specs.Words.Wants.{rises};
-ghost use Rattle.fd_events.specs.Linked.{AreStamps, IsLinked, watches_in};
+ghost use Rattle.fd_events.specs.Linked.{HasStampsLeft, IsLinked, watches_in};
 ghost use Rattle.fd_events.specs.Picking.{coming_for, first_event, sooner as sooner_of};
 
 use crate::lane::Lane;
@@ -22,9 +22,8 @@ fn sooner(first: Option<Coming>, second: Option<Coming>) -> Option<Coming>
     ensures { result ≡ sooner_of first second }
 {
     match (first, second) {
-        (Some(c), Some(d)) if d.stamp < c.stamp => second,
-        (Some(_), _) => first,
-        (None, _) => second,
+        (Some(one), Some(other)) if other.stamp < one.stamp => second,
+        _ => first.or(second),
     }
 }
 
@@ -45,7 +44,7 @@ impl Lane {
     /// The first event that comes. It takes the time of the descriptors that are ready, however many events aren't.
     pub(crate) fn first_coming(&self, holders: &Arena<u64>, ready: &[Want]) -> Option<ReadyEvent>
         requires linked { IsLinked self.now holders.now.pairs }
-        requires stamps { AreStamps self.now }
+        requires stamps { HasStampsLeft self.now }
         requires rises { rises ready.now ≡ true }
         ensures { result ≡ first_event (watches_in self.now) ready.now }
     {
@@ -53,6 +52,6 @@ impl Lane {
         for want in ready {
             first = sooner(first, self.coming(holders, *want));
         }
-        Some(first?.event)
+        first.map(|coming| coming.event)
     }
 }

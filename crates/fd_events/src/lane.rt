@@ -3,7 +3,7 @@ ghost use Rattle.std.specs.Prelude.{◌≡◌, ◌↔◌, ℕ, ◌∷◌, List, 
 ghost use Rattle.std.specs.FinMap as map;
 ghost use Rattle.linked_lanes.specs.Lane.{has, without};
 ghost use Rattle.linked_lanes.specs.Chain.{sides_in};
-ghost use Rattle.fd_events.specs.Linked.{watch_at, AreStamps, IsLane, is_there};
+ghost use Rattle.fd_events.specs.Linked.{watch_at, HasStampsLeft, IsLane, is_there};
 
 use crate::node::{Node, set_link, set_place};
 use linked_lanes::{Link, Sides};
@@ -18,8 +18,8 @@ pub(crate) struct Lane {
     pub newest: Option<u64>,
     /// The one that is looked at first.
     pub oldest: Option<u64>,
-    /// The stamp of the one that joins next. Each has a greater stamp than those before it, until this is the greatest
-    /// number that there is: from then on the stamps tell nothing.
+    /// The stamp of the one that joins next. Each has a greater stamp than those before it. Once this is the greatest
+    /// number that there is, no stamps are left to give, and they tell nothing any more.
     pub next_stamp: u64,
 }
 
@@ -60,9 +60,9 @@ impl Lane {
         set_place(&mut self.nodes, x, Sides { newer: None, older }, stamp);
     }
 
-    /// Whether the stamps tell the order.
-    pub(crate) fn is_stamped(&self) -> bool
-        ensures { IsTrue result ↔ AreStamps self.now }
+    /// Whether there are stamps left to give. As long as there are, the stamps tell the order.
+    pub(crate) fn has_stamps_left(&self) -> bool
+        ensures { IsTrue result ↔ HasStampsLeft self.now }
     {
         self.next_stamp != u64::MAX
     }

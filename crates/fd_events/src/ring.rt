@@ -1,5 +1,6 @@
 //! `Ring`: the events on descriptors, in the order in which a turn of the event loop looks at them. An event is found
-//! by its number, and by its descriptor, in the same time however many there are.
+//! by its number, and by its descriptor, in the same time however many there are, and the first one that comes in the
+//! time of the descriptors that are ready.
 //!
 //! Contracts see the list of how each event watches, the one that is looked at first in front, and for how many more
 //! there is memory (`spare`).

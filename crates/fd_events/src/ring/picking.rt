@@ -21,7 +21,7 @@ enum Walked {
     Met(ReadyEvent),
     /// It passed all of them, and none comes.
     Ended,
-    /// It stopped before, and none that it passed comes.
+    /// It stopped before, and none of those that it passed comes.
     Stopped,
 }
 
@@ -38,7 +38,7 @@ impl Walked {
 }
 
 impl Ring {
-    /// Looks at so many events, the oldest first.
+    /// Looks at so many events at most, the oldest first, until one comes.
     fn walk(&self, ready: &[Want], steps: usize) -> Walked
         requires { rises ready.now ≡ true }
         ensures { IsWalked self.now.watches ready.now steps result }
@@ -56,7 +56,11 @@ impl Ring {
             }
             at = next;
         }
-        Walked::Stopped
+        if at.is_some() {
+            Walked::Stopped
+        } else {
+            Walked::Ended
+        }
     }
 
     /// The first event that is watched for something that its descriptor is ready for, and what that is. None exactly
@@ -67,7 +71,7 @@ impl Ring {
         ensures { result ≡ option_map ready_event (first_ready self.now.watches ready.now) }
     {
         let ready = ready.as_slice();
-        if !self.lane.is_stamped() {
+        if !self.lane.has_stamps_left() {
             return self.walk(ready, self.len()).met();
         }
         match self.walk(ready, ready.len().max(A_FEW)) {

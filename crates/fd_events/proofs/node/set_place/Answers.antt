@@ -1,4 +1,4 @@
-use Rattle.std.proofs.Common.{ℕ, nat_eq, refl, ap, ◌∙◌}
+use Rattle.std.proofs.Common.{nat_eq, refl, ap, ◌∙◌}
 use Rattle.std.specs.Option.{option_map}
 use Rattle.pool_arena.specs.Arena.{get}
 use Rattle.pool_arena.proofs.Steps.{mapped-at, len-old}

@@ -1,4 +1,4 @@
-use Rattle.std.proofs.Common.{◌≡◌, ℕ, ◌≤◌, List, [], length, Option, Some, None, take, add-one, refl, sym, ap, ◌∙◌}
+use Rattle.std.proofs.Common.{◌≡◌, ℕ, ◌≤◌, List, [], length, Option, take, add-one, refl, sym, ap, ◌∙◌, rules}
 use Rattle.std.specs.Option.{option_map}
 use Rattle.std.proofs.lemmas.List.{take_all}
 use Rattle.tree_specs.specs.declared.wants.Want.{Want}
@@ -26,12 +26,7 @@ all l vs n first e m =
     ap (option_map event_of) (e ∙ ap (λ us. first_coming (stamp_by l) (ready_for us) (watches_in l)) (take_all n vs m))
     ∙ first-all (stamp_by l) vs (watches_in l)
 
-pub returns-in_err-first : goal.returns-in_err-first
-returns-in_err-first c =
-    c.from_residual.ensures ∙ ap (option_map event_of) (sym c.in_err-first.was)
-    ∙ all c.args.self.now c.args.ready.now c.loop-want.want-index c.loop-want.first c.loop-want.invariant c.loop-want-test.false
-
 pub returns : goal.returns
 returns c =
-    ap (option_map event_of) (sym c.in_ok-first.was)
-    ∙ all c.args.self.now c.args.ready.now c.loop-want.want-index c.loop-want.first c.loop-want.invariant c.loop-want-test.false
+    let told : c.map.result ≡ option_map event_of c.loop-want.first = search rules in
+    told ∙ all c.args.self.now c.args.ready.now c.loop-want.want-index c.loop-want.first c.loop-want.invariant c.loop-want-test.false
