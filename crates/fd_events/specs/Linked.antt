@@ -70,7 +70,7 @@ watches_in l = listed (watch_at l.nodes.pairs) (numbers_in l)
 
 -- ---- the stamps
 
--- there is a greater number than each stamp that was given
+-- not all stamps have been given
 abbrev pub HasStampsLeft : Lane → Type 0
 HasStampsLeft l = l.next_stamp < 2 ^ 64 - 1
 

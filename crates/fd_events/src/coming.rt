@@ -17,7 +17,7 @@ struct Coming {
     event: ReadyEvent,
 }
 
-/// The one that stands before the other.
+/// The one of two that stands before the other. Where one is given alone, it is that one.
 fn sooner(first: Option<Coming>, second: Option<Coming>) -> Option<Coming>
     ensures { result ≡ sooner_of first second }
 {

@@ -11,7 +11,7 @@ use crate::ready::{ReadyEvent, ready_for};
 use crate::ring::{Place, Ring};
 use tree_specs::{Want, Wants};
 
-/// So many events are looked at, however few descriptors are ready.
+/// At least so many events are looked at before the descriptors, however few of these are ready.
 const A_FEW: usize = 8;
 
 /// What a walk over the rotation tells.
