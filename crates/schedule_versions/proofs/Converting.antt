@@ -23,9 +23,10 @@ use Rattle.tree_specs.specs.Texts.Text.{newline}
 use Rattle.line_pieces.specs.Cuts.{ended_line, has_no_lf}
 use Rattle.line_pieces.proofs.LineLaws.{lines_ended}
 use Rattle.schedule_text.proofs.Inputs.{line_of, input_again, line_spelled, sound_anyway}
-use Rattle.service_rules.specs.Schedules.{judged, runner_in, runner_of}
+use Rattle.service_rules.specs.Schedules.{runner_in, runner_of}
 use Rattle.service_records.proofs.Judging.{ArePlain, line_in, lines-of-inputs, not-over}
 use Rattle.service_records.proofs.Lines.{line-part, line-plain}
+use Rattle.schedule_versions.specs.Judging.{IsJudgedAlike}
 use Rattle.schedule_versions.specs.Conversions.{converted, converted_lines, header_at, headed, lines_text, shape, shaper, shapers}
 
 -- ---- what the lines spell
@@ -194,8 +195,7 @@ alike (first ∷ rest) none = each first.ended (header_of first.text) refl refl
         let text : converted_lines (first ∷ rest) ≡ header_text Two h.mode ++ newline ++ lines_text is = rw (ended, e) refl in
         rw (text, lines-after h.mode is (all-plain h.version 2 rest is spell)) (headed-alike h first rest at ended is spell)
 
-pub judged-as-before : (bytes : List ℕ) → shape bytes ≡ None → judged (converted bytes) ≡ judged bytes
-judged-as-before bytes none = (alike (lines bytes) none).judged
-
-pub told-as-before : (bytes : List ℕ) → shape bytes ≡ None → transcript_lines runner_of (lines (converted bytes)) ≡ transcript_lines runner_of (lines bytes)
-told-as-before bytes none = (alike (lines bytes) none).told
+pub judged-as-before : (bytes : List ℕ) → shape bytes ≡ None → IsJudgedAlike bytes (converted bytes)
+judged-as-before bytes none =
+    let a = alike (lines bytes) none in
+    record { judged = ap (λ (j : Judged Input). j.refused) a.judged; inputs = ap (λ (j : Judged Input). j.inputs) a.judged; transcript = a.told }
