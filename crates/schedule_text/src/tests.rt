@@ -3,7 +3,7 @@ use std::alloc::Global;
 use std::process::Abort;
 use std::test::Fail;
 use text_forms::FormFault;
-use tree_specs::{Event, Octets, Reply};
+use tree_specs::{Event, Octets, Reply, Version};
 
 mod events;
 mod heard;
@@ -22,9 +22,9 @@ fn writes(rt: &impl Abort, alloc: Global, cases: &[(Event, &[u8])]) -> Result<()
     Ok(())
 }
 
-// The line is no input.
+// The line is no input in version 2.
 fn reads_none(rt: &impl Abort, alloc: Global, line: &str) {
-    let input = read_line(alloc, line.as_bytes());
+    let input = read_line(alloc, line.as_bytes(), Version::Two);
     assert!(rt; matches!(input, Err(FormFault::NoForm)), "at {line:?}");
 }
 

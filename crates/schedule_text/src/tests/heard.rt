@@ -1,7 +1,7 @@
 use super::{octets, reads_none};
 use crate::{read_line, write_input};
 use std::test::Fail;
-use tree_specs::{Act, Call, Input};
+use tree_specs::{Act, Call, Input, Version};
 
 // An input and its line.
 type Case = (Input, &'static [u8]);
@@ -53,7 +53,7 @@ fn reads_what_descriptors_answer(rt: HostRuntime) -> Result<(), Fail> {
         (b"wrote 65536".as_slice(), (b"wrote".as_slice(), 65_536)),
     ];
     for (line, want) in cases {
-        let input = read_line(rt.alloc(), line)?;
+        let input = read_line(rt.alloc(), line, Version::Two)?;
         assert_eq!(rt; told(&input), want, "at {line:?}");
     }
     Ok(())
@@ -75,7 +75,7 @@ fn reads_bytes(rt: HostRuntime) -> Result<(), Fail> {
         (b"act write 6 0aff".as_slice(), b"\x0a\xff".as_slice()),
     ];
     for (line, want) in cases {
-        let input = read_line(rt.alloc(), line)?;
+        let input = read_line(rt.alloc(), line, Version::Two)?;
         assert_eq!(rt; bytes_in(&input), Some(want), "at {line:?}");
     }
     Ok(())
