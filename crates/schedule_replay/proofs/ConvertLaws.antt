@@ -16,7 +16,6 @@ use Rattle.tree_specs.specs.Texts.Schedule.{header_of, header_text}
 use Rattle.tree_specs.specs.Texts.Text.{input_text, newline}
 use Rattle.line_pieces.specs.Cuts.{ended_line}
 use Rattle.line_pieces.specs.Takings.{TakesLine, last_lines}
-use Rattle.line_pieces.proofs.Feeding.{no-bytes}
 use Rattle.schedule_text.specs.Converted.{IsConverted as TurnsInto}
 use Rattle.schedule_versions.specs.Conversions.{converted, converted_lines, header_at, lines_text, shape, shaper, shapers}
 use Rattle.schedule_replay.specs.declared.conversion.Conversion.{Conversion}
@@ -32,7 +31,7 @@ use Rattle.schedule_replay.specs.Replays.{Replayed, behind, with_front, replayed
 use Rattle.schedule_replay.specs.Standings.{Standing, runner_of, Follows, once}
 use Rattle.schedule_replay.proofs.TextLaws.{begins_behind, begins_it, front-nil, front-front}
 use Rattle.schedule_replay.proofs.RunLaws.{accepts, refuses-so, no-more-so, no-input, cut-input, limit-input, not-over}
-use Rattle.schedule_replay.proofs.HeaderLaws.{headerless}
+use Rattle.schedule_replay.proofs.HeaderLaws.{headerless, headless, not-accepted, nothing-written}
 
 -- ---- what reads lines and runs nothing, as what stands for a machine
 
@@ -142,27 +141,18 @@ in-front c = λ n ls. begins_it c.text.items (converted_from c.version n ls).tex
 
 -- ---- by how it ended
 
-abbrev refused-first : Option (ℕ × Reason)
-refused-first = Some (1, Form)
-
-never : {A : Type 0} → refused-first ≡ None → A
-never e = absurd cc
-
 -- what was taken of whole lines is all that they are turned into
 of-whole : (c : Conversion) (n : ℕ) (whole text : List ℕ) → ready c n → text_in c ≡ [] → (n ≡ 1 → whole ≡ []) → converted_all (lines whole) ≡ with_front text (plays c n []) → IsOfWhole whole text
 of-whole c n whole text h empty begun e = by_version c.version h (e ∙ ap (λ (l : List ℕ). with_front text (with_front l (converted_from c.version n []))) empty ∙ ap (with_front text) (sym (front-nil (converted_from c.version n []))))
   where
+    nothing : converted_all [] ≡ headless
+    nothing = ends-first false [] (omega arith)
+
     none-first : (whole : List ℕ) → whole ≡ [] → converted_all (lines whole) ≡ with_front text (converted_all []) → IsOfWhole whole text
-    none-first whole none e =
-        let first : converted_all [] ≡ record { text = Some []; refused = Some (1, Form) } = ends-first false [] (omega arith) in
-        let f = sym (ap converted_all no-bytes ∙ first) ∙ ap (λ (l : List ℕ). converted_all (lines l)) (sym none) ∙ e ∙ ap (with_front text) first in
-        let g : Some [] ≡ Some (text ++ []) = ap (λ (r : Replayed). r.text) f in
-        let k : [] ≡ text ++ [] = cc in
-        subst (λ (l : List ℕ). IsOfWhole l text) (sym none) (sym (k ∙ append-nil text))
+    none-first whole none e = subst (λ (l : List ℕ). IsOfWhole l text) (sym none) (nothing-written converted_all whole text nothing none (e ∙ ap (with_front text) nothing))
 
     some-lines : (whole : List ℕ) → converted_all (lines whole) ≡ record { text = Some text; refused = None } → IsOfWhole whole text
-    some-lines [] e =
-        never (ap (λ (r : Replayed). r.refused) (sym (ap converted_all no-bytes ∙ ends-first false [] (omega arith)) ∙ e))
+    some-lines [] e = not-accepted converted_all (Some text) nothing e
     some-lines (x ∷ xs) e =
         let g : Some (converted (x ∷ xs)) ≡ Some text = ap (λ (r : Replayed). r.text) e in
         let k : converted (x ∷ xs) ≡ text = cc in

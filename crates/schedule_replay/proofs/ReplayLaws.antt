@@ -1,15 +1,12 @@
 -- What a replay writes and answers, by what its stages play.
 use Rattle.std.proofs.Common.{◌≡◌, ℕ, false, List, [], ◌∷◌, ◌++◌, Option, Some, None, refl, sym, ap, subst, ◌∙◌, arith}
 use Rattle.std.specs.Prelude.{IfSome}
-use Rattle.std.proofs.lemmas.List.{append-nil}
 use Rattle.tree_specs.specs.declared.question.Ask.{Ask}
 use Rattle.tree_specs.specs.declared.schedule.Reason.{Reason}
-use Rattle.tree_specs.specs.declared.schedule.Reason.TheVariants.{Form}
 use Rattle.tree_specs.specs.Texts.Lines.{Line, lines}
 use Rattle.tree_specs.specs.Texts.Grammar.{input_of}
 use Rattle.tree_specs.specs.Texts.Schedule.{misfit}
 use Rattle.tree_specs.specs.Texts.Text.{end_text}
-use Rattle.line_pieces.proofs.Feeding.{no-bytes}
 use Rattle.schedule_replay.specs.declared.ran.Ran.{Ran}
 use Rattle.schedule_replay.specs.declared.ran.Ran.TheVariants as rans
 use Rattle.schedule_replay.specs.declared.stage.Stage.{Stage}
@@ -21,31 +18,18 @@ use Rattle.schedule_replay.specs.Replays.{Replayed, with_front, replayed_lines}
 use Rattle.schedule_replay.specs.Runs.{Replays, IsCutTranscript}
 use Rattle.schedule_replay.specs.Stages.{IsAtHeader, replayed_all, plays, text_in, ready}
 use Rattle.schedule_replay.specs.Standings.{runner_of}
+use Rattle.schedule_replay.proofs.HeaderLaws.{headless, not-accepted, nothing-written}
 use Rattle.schedule_replay.proofs.TextLaws.{front-nil}
 use Rattle.schedule_replay.proofs.RunLaws.{no-more}
 use Rattle.schedule_replay.proofs.WholeLaws.{header-ends, judge_is, text_is, is_done, is_bad, is_front}
 
 -- ---- where a read failed
 
--- of no lines there is no transcript
-no-lines : replayed_all (lines []) ≡ record { text = Some []; refused = Some (1, Form) }
-no-lines = ap replayed_all no-bytes ∙ header-ends false [] (omega arith)
-
-at-first : (whole text : List ℕ) → whole ≡ [] → replayed_all (lines whole) ≡ with_front text (record { text = Some []; refused = Some (1, Form) }) → IsCutTranscript whole text
-at-first whole text none e =
-    let f = sym no-lines ∙ ap (λ (l : List ℕ). replayed_all (lines l)) (sym none) ∙ e in
-    let g : Some [] ≡ Some (text ++ []) = ap (λ (r : Replayed). r.text) f in
-    let k : [] ≡ text ++ [] = cc in
-    subst (λ (l : List ℕ). IsCutTranscript l text) (sym none) (sym (k ∙ append-nil text))
-
-abbrev at-once : Option (ℕ × Reason)
-at-once = Some (1, Form)
-
-never : {A : Type 0} → at-once ≡ None → A
-never e = absurd cc
+at-first : (whole text : List ℕ) → whole ≡ [] → replayed_all (lines whole) ≡ with_front text headless → IsCutTranscript whole text
+at-first whole text none e = subst (λ (l : List ℕ). IsCutTranscript l text) (sym none) (nothing-written replayed_all whole text (header-ends false [] (omega arith)) none e)
 
 later : (whole text : List ℕ) (q : Ask) → replayed_all (lines whole) ≡ record { text = Some (text ++ end_text q); refused = None } → IsCutTranscript whole text
-later [] text q e = never (ap (λ (r : Replayed). r.refused) (sym no-lines ∙ e))
+later [] text q e = not-accepted replayed_all (Some (text ++ end_text q)) (header-ends false [] (omega arith)) e
 later (x ∷ xs) text q e = (judge_is (x ∷ xs) (Some (text ++ end_text q)) None e, q, text_is (x ∷ xs) (Some (text ++ end_text q)) None e)
 
 -- what was done of whole lines is their transcript without its last line

@@ -12,8 +12,6 @@ mod moment;
 mod question;
 mod ready;
 mod reply;
-#[cfg(test)]
-mod tests;
 
 pub use event::write_event;
 pub use header::{read_header, write_header};

@@ -86,7 +86,7 @@ Within k (MayEnd line next) = Within k next
 Within k (TakesNumeral kind next) = (leb 21 k ≡ true) × ((n : ℕ) → Within (k - 21) (next n))
 Within k (TakesObject next) = (leb 21 k ≡ true) × ((x : Obj) → Within (k - 21) (next x))
 Within k (TakesOwner next) = (leb 21 k ≡ true) × ((o : Owner) → Within (k - 21) (next o))
-Within k (EndsInName line) = leb 256 k ≡ true
+Within k (EndsInName line) = leb 1024 k ≡ true
 Within k (EndsInBytes line) = leb 131073 k ≡ true
 
 one_more : (most k : ℕ) (word : List ℕ) (more : List (List ℕ)) → leb (suc most) k ≡ true → length word ≤ most → size more ≤ k - suc most → size (word ∷ more) ≤ k
@@ -147,7 +147,7 @@ wider (MayEnd line next) j k le t = wider next j k le t
 wider (TakesNumeral kind next) j k le t = (enough_too 21 j k le t.0, λ n. wider (next n) (j - 21) (k - 21) (less_too 21 j k le) (t.1 n))
 wider (TakesObject next) j k le t = (enough_too 21 j k le t.0, λ x. wider (next x) (j - 21) (k - 21) (less_too 21 j k le) (t.1 x))
 wider (TakesOwner next) j k le t = (enough_too 21 j k le t.0, λ o. wider (next o) (j - 21) (k - 21) (less_too 21 j k le) (t.1 o))
-wider (EndsInName line) j k le t = enough_too 256 j k le t
+wider (EndsInName line) j k le t = enough_too 1024 j k le t
 wider (EndsInBytes line) j k le t = enough_too 131073 j k le t
 
 -- where there is room for bytes and for as much again
