@@ -58,7 +58,7 @@ fn notifying(last: Option<Reply>) -> Moment {
     }
 }
 
-// The call has this text.
+// The call has this text in version 2.
 fn is_written(rt: &impl Abort, alloc: Global, call: &Call, want: &str) -> Result<(), Fail>
     requires { IsTrue (is_sound_call call.now) }
 {
@@ -121,7 +121,7 @@ fn connects(rt: &impl Abort, alloc: Global, desk: &mut Desk) -> Result<(), Fail>
     let accepted = listening(Some(Reply::Number(5)));
     calls(rt, alloc, desk, accepted, "new 1 0 session")?;
     let made = listening(Some(Reply::Number(SESSION.0)));
-    calls(rt, alloc, desk, made, "fd 3 5 1 2 3")?;
+    calls(rt, alloc, desk, made, "fd 3 5 1 2 3 0")?;
     let watched = listening(Some(Reply::Number(EVENT.0)));
     calls(rt, alloc, desk, watched, "autoclose 4")?;
     calls(rt, alloc, desk, listening(Some(Reply::Ok)), "queue 3 jobs")?;
@@ -226,7 +226,7 @@ fn falls_asleep(rt: &impl Abort, alloc: Global, desk: &mut Desk) -> Result<(), F
     let made = serving(Some(Reply::Number(REQUEST.0)));
     calls(rt, alloc, desk, made, "now")?;
     let told = serving(Some(Reply::Number(100)));
-    calls(rt, alloc, desk, told, "endtime 9 105")?;
+    calls(rt, alloc, desk, told, "endtime 9 105 0")?;
     calls(rt, alloc, desk, serving(Some(Reply::Ok)), "callback 9 3 3")?;
     does_lines(rt, desk, serving(Some(Reply::Ok)))?;
     ends_lines(desk)

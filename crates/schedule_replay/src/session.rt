@@ -68,10 +68,7 @@ fn take_piece<P: Player, K: Sink>(
 }
 
 /// Takes the end of the schedule, and writes what comes of it, before an error too.
-fn take_end<P: Player, K: Sink>(
-    reader: &mut LineReader<Taker<P>>,
-    out: &mut K,
-) -> Result<(), Stop>
+fn take_end<P: Player, K: Sink>(reader: &mut LineReader<Taker<P>>, out: &mut K) -> Result<(), Stop>
     requires ready { IsBetweenBytes P.ready (reading_of reader.old) }
     ensures passed { PassesEnd P.plays (reading_of reader.old) (K.held out.old) (K.held out.new) result }
     ensures cause { Counts (K.faults out.old) (K.faults out.new) (result ≡ Err Stop.Write) }

@@ -66,11 +66,7 @@ fn append_line(line: &[u8], gains: bool, out: &mut Vec<u8>) -> Result<(), Memory
 /// where it spells no input in this version, unless memory ran out; nothing is appended then, and without memory.
 ///
 /// Either version has one spelling of an input, so the bytes of the line are copied.
-pub fn convert_line(
-    line: &[u8],
-    version: Version,
-    out: &mut Vec<u8>,
-) -> Result<(), FormFault>
+pub fn convert_line(line: &[u8], version: Version, out: &mut Vec<u8>) -> Result<(), FormFault>
     ensures { Converts version line.now out.old.items out.new.items result }
 {
     let input = read_line(*out.allocator(), line, version)?;

@@ -32,11 +32,7 @@ macro_rules! call_in_context {
 }
 
 /// The call of this verb, whose context comes next, where one is said.
-fn read_context(
-    version: Version,
-    verb: ContextVerb,
-    fields: &mut Fields,
-) -> Result<Call, FormFault>
+fn read_context(version: Version, verb: ContextVerb, fields: &mut Fields) -> Result<Call, FormFault>
     ensures { Takes result (taken version (reading_of (verbs.Context verb)) fields.old) fields.new }
 {
     fields.context(version)?;
@@ -265,7 +261,11 @@ fn read_enqueue(version: Version, fields: &mut Fields) -> Result<Call, FormFault
 
 /// The call of this verb, whose fields come next.
 #[tactic(auto, unfolding(crate::specs::Verbs::fields_read))]
-pub(crate) fn read_fields(version: Version, verb: Verb, fields: &mut Fields) -> Result<Call, FormFault>
+pub(crate) fn read_fields(
+    version: Version,
+    verb: Verb,
+    fields: &mut Fields,
+) -> Result<Call, FormFault>
     ensures { Takes result (fields_read version verb fields.old) fields.new }
 {
     match verb {

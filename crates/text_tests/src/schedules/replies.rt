@@ -2,7 +2,7 @@ use super::{octets, replied, writes};
 use std::alloc::Global;
 use std::test::Fail;
 use text_forms::read_name;
-use tree_specs::{Reply, ReportRow, ReportRows, RowKind};
+use tree_specs::{Reply, ReportRow, ReportRows, RowKind, Version};
 
 #[test]
 fn writes_replies(rt: HostRuntime) -> Result<(), Fail> {
@@ -45,7 +45,7 @@ fn reference_row(alloc: Global) -> Result<ReportRow, Fail> {
         size: 0,
         refs: 0,
         target: 2,
-        name: read_name(alloc, b"reference")?,
+        name: read_name(alloc, b"reference", Version::Two)?,
     })
 }
 
