@@ -4,6 +4,7 @@ pub mod HandlerLaws
 pub mod NoteLaws
 pub mod QueueLaws
 pub mod PendingLaws
+pub mod ContextLaws
 pub mod RotationLaws
 pub mod DescriptorLaws
 pub mod Awaiting

@@ -53,5 +53,5 @@ pub fn a_refused_call_changes_nothing()
 
 /// A turn within a routine is refused, whatever this routine runs for, and does nothing.
 pub fn a_nested_turn_is_refused()
-    ensures { (m : MomentData) (turn : Work ℕ) (p : Pool) (is : List InputData) → turned (Routine m) turn p is ≡ Ended (No Nested) p [] is }
+    ensures { (m : MomentData) (turn : Work ℕ) (c : ObjData) (p : Pool) (is : List InputData) → turned (Routine m) turn c p is ≡ Ended (No Nested) p [] is }
 {}

@@ -1,4 +1,10 @@
 -- What it means that no refusal applies, and that an input fits.
+use Rattle.tree_specs.specs.declared.reply.Refusal.TheVariants.{Dying as IsDyingRefusal}
+use Rattle.tree_specs.specs.Calls.Refusals.{of_kind}
+use Rattle.tree_specs.specs.Words.Objects.{first_context}
+use Rattle.tree_specs.specs.Words.Objects.{same}
+use Rattle.tree_specs.specs.declared.test.Test.TheVariants.{IsContext}
+use Rattle.tree_specs.specs.Calls.Refusals.{context}
 use Rattle.std.proofs.Common.{◌≡◌, ◌≢◌, ℕ, suc, zero, arith, List, [], ◌∷◌, ◌++◌, length, Option, Some, None, Bool, true, false, refl, sym, ◌∙◌, ap, subst, ◌⊎◌, inl, inr}
 use Rattle.std.specs.Prelude.{◌+◌, ◌^◌, ◌&&◌, is_some, not, nat_lt, nat_le}
 use Rattle.std.proofs.lemmas.Bool.{eqb-true}
@@ -22,7 +28,7 @@ use Rattle.tree_specs.specs.declared.question.Input.{Input}
 use Rattle.tree_specs.specs.declared.question.Input.TheVariants as input
 use Rattle.tree_specs.specs.declared.frame.Frame.{Frame}
 use Rattle.tree_specs.specs.Tree.Targets.{target_of, is_reference}
-use Rattle.tree_specs.specs.Tree.Pool.{Pool, row_of, is_object_row, is_owner, is_below, owner_of, newest_ref_of, reaches, is_inside}
+use Rattle.tree_specs.specs.Tree.Pool.{Pool, row_of, is_object_row, is_owner, is_below, owner_of, newest_ref_of, reaches, is_inside, is_usable_row, is_context_row}
 use Rattle.tree_specs.specs.Tree.Reports.{count_refs}
 use Rattle.tree_specs.specs.Calls.Given.{Given, given_to}
 use Rattle.tree_specs.specs.Calls.Given.Given.{Calls, Returns, Tells, IsReady, Opens, Answers}
@@ -32,7 +38,7 @@ use Rattle.tree_specs.specs.Calls.Plans.Change.{Nothing, Place}
 use Rattle.tree_specs.specs.Calls.Plans.Plan.{Does, Works}
 use Rattle.tree_specs.specs.Calls.Refusals.{Check, tests, refusals, refuse_if, refusal_of, refused, size_limit, row_limit, object_row, object, owner, room, apart, interested, given_by, is_running_mark, is_open}
 use Rattle.tree_specs.specs.declared.test.Test.TheVariants.{IsSmall, IsObject, IsOwner, IsPlain, IsImmediate, IsDescriptor, IsRequest, IsReferable, IsOpen, IsUnwatched, HasRoom, HasNumber, IsInProgress, IsFinished, MayFail, Fits, MayGrow, IsNotDying, IsNotDoomed, IsNotRunning, IsNotInside, IsUnheld, IsUnreferenced, IsInterested, MayGive, IsQueue, IsMovable, IsNotGoing}
-use Rattle.tree_specs.specs.Calls.Passed.{Interest, AsOwner, AsHolder, Gives, Itself, ItsRef, Passed, AllPassed}
+use Rattle.tree_specs.specs.Calls.Passed.{Interest, AsOwner, AsHolder, Gives, Itself, ItsRef, IsUsable, First, Stays, Passed, AllPassed}
 use Rattle.tree_specs.specs.Invariants.Sound.{IsLive, MayBePlaced}
 use Rattle.tree_specs.specs.Words.Ranges.{is_sound_call, is_return, is_routine, is_time}
 use Rattle.tree_specs.specs.Words.Octets.{is_octets}
@@ -116,6 +122,15 @@ passes-given p from to x e = by_test (is_below (owner_of p.rows x) from)
     (λ t. let g : apart p x to ≡ [] = rw t at e in Itself t (refuse_if-none _ (Loop x to) g))
     (λ t. let g : refuse_if (not (is_some (newest_ref_of p.rows from x))) (NotParent x from) ≡ [] = rw t at e in held-ref p from x (λ r u n. ItsRef r u n) t g)
 
+passes-context : (p : Pool) (c : Obj) → context p c ≡ [] → IsUsable p c
+passes-context p c e = by_test (same c first_context)
+    (λ t. First t)
+    (λ t.
+    let e' : object p c ++ (of_kind is_context_row p c ++ refuse_if (not (is_usable_row (row_of p.rows c))) (IsDyingRefusal c)) ≡ [] = rw t at e in
+    let a = both-none (object p c) (of_kind is_context_row p c ++ refuse_if (not (is_usable_row (row_of p.rows c))) (IsDyingRefusal c)) e' in
+    let b = both-none (of_kind is_context_row p c) (refuse_if (not (is_usable_row (row_of p.rows c))) (IsDyingRefusal c)) a.1 in
+    Stays (not-false _ (refuse_if-none _ _ b.0)) (not-false _ (refuse_if-none _ _ b.1)))
+
 pub passes : (p : Pool) (t : Test) → refusal_of p t ≡ [] → Passed p t
 passes p (IsSmall size) e = let big : nat_le size_limit size ≡ false = refuse_if-none _ (TooBig size) e in grind (arith, nat_tests)
 passes p (IsObject x) e = passes-object p x e
@@ -125,6 +140,7 @@ passes p (IsImmediate x) e = not-false _ (refuse_if-none _ _ e)
 passes p (IsDescriptor x) e = not-false _ (refuse_if-none _ _ e)
 passes p (IsRequest x) e = not-false _ (refuse_if-none _ _ e)
 passes p (IsQueue x) e = not-false _ (refuse_if-none _ _ e)
+passes p (IsContext c) e = passes-context p c e
 passes p (IsMovable x) e = not-true _ (not-false _ (refuse_if-none _ _ e))
 passes p (IsReferable x) e = not-false _ (refuse_if-none _ _ e)
 passes p (IsOpen fd) e = not-false _ (refuse_if-none _ _ e)

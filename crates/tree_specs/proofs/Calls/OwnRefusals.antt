@@ -1,4 +1,7 @@
 -- What a call is refused for before it does anything.
+use Rattle.tree_specs.specs.Calls.Refusals.{context, of_kind}
+use Rattle.tree_specs.specs.Words.Objects.{same, first_context}
+use Rattle.tree_specs.specs.declared.test.Test.TheVariants.{IsContext}
 use Rattle.tree_specs.proofs.Tree.Referring.{unreferred, plain-refers}
 use Rattle.tree_specs.specs.Tree.Forest.{Distinct}
 use Rattle.tree_specs.specs.Invariants.Sound.{IsReferable, Refers}
@@ -15,7 +18,7 @@ use Rattle.tree_specs.specs.declared.reply.Reply.TheVariants.{No}
 use Rattle.tree_specs.specs.declared.reply.Refusal.{Refusal}
 use Rattle.tree_specs.specs.declared.reply.Refusal.TheVariants as refusal
 use Rattle.tree_specs.specs.declared.event.Event.TheVariants.{Replied}
-use Rattle.tree_specs.specs.Tree.Pool.{Pool, row_of, is_below, owner_of, is_object, is_owner}
+use Rattle.tree_specs.specs.Tree.Pool.{Pool, row_of, is_below, owner_of, is_object, is_owner, is_context_row}
 use Rattle.tree_specs.specs.Tree.Targets.{is_reference}
 use Rattle.tree_specs.specs.Rules.Items.{Item}
 use Rattle.tree_specs.specs.Rules.Items.Item.{Told}
@@ -86,6 +89,11 @@ own-state : (p : Pool) (x : Obj) (is_right : State → Bool) (n : Option Note) �
 own-state p x is_right None = tt
 own-state p x is_right (Some n) = own-if p _ _ (λ t. tt)
 
+own-context : (p : Pool) (c : Obj) → AllOwn p (context p c)
+own-context p c = by_test (same c first_context)
+    (λ t. rw t tt)
+    (λ t. rw t (own-both p (object p c) _ (own-object p c) (own-both p (of_kind is_context_row p c) _ (own-if p _ _ (λ u. tt)) (own-if p _ _ (λ u. tt)))))
+
 own-test : (p : Pool) (t : Test) → AllOwn p (refusal_of p t)
 own-test p (IsSmall size) = own-if p _ _ (λ t. tt)
 own-test p (IsObject x) = own-object p x
@@ -95,6 +103,7 @@ own-test p (IsImmediate x) = own-if p _ _ (λ t. tt)
 own-test p (IsDescriptor x) = own-if p _ _ (λ t. tt)
 own-test p (IsRequest x) = own-if p _ _ (λ t. tt)
 own-test p (IsQueue x) = own-if p _ _ (λ t. tt)
+own-test p (IsContext c) = own-context p c
 own-test p (IsMovable x) = own-if p _ _ (λ t. tt)
 own-test p (IsReferableTest x) = own-if p _ _ (λ t. tt)
 own-test p (IsOpen fd) = own-if p _ _ (λ t. tt)

@@ -1,4 +1,6 @@
 -- What a plan asks for, what its change of the rows leaves so, and that a call which isn't refused may carry out its plan.
+use Rattle.tree_specs.specs.declared.test.Test.TheVariants.{IsContext}
+use Rattle.tree_specs.specs.Calls.Passed.{IsUsable}
 use Rattle.std.proofs.Common.{nat_eq, ◌≡◌, ◌≢◌, ◌≤◌, List, [], ◌∷◌, Option, Some, None, Bool, true, false, refl, sym, ◌∙◌, subst, arith}
 use Rattle.std.specs.Prelude.{if◌then◌else◌}
 use Rattle.tree_specs.specs.declared.object.Obj.{Obj}
@@ -75,7 +77,7 @@ May p (Frees x) = (newest_ref p.rows x ≡ None) × (target_at p.rows x ≡ None
 May p (Unlinks o x) = (r : Row) × (row_of p.rows x ≡ Some r) × IsLive r.mark × (target_of r.kind ≡ None)
 May p (Empties x) = Unit {0}
 May p (Asks q) = IsOutside q
-May p Turns = Unit {0}
+May p (Turns c) = IsUsable p c
 May p (Works c errand x) = MayDo p c × (added c ≡ 0) × (heavier c ≡ 0) × MayWork (changed_by c p) errand x
 
 -- the reference that goes in the place of its target
@@ -132,16 +134,16 @@ module _ (f : Frame) (fs : List Frame) (p : Pool) (s : Sound f fs p) where
       rw (t, n) (ref-placed f fs p to x r s (rw w.1 w.2) there, omega arith, tt, omega arith)
 
   -- an immediate that isn't doomed
-  scheduled : (x : Obj) → AllPassed p (IsObject x ∷ IsImmediate x ∷ IsNotDoomed x ∷ []) → waits_as_row what.Immediate (row_of p.rows x) ≡ true
-  scheduled x h = let k : is_immediate h.0.0.kind ≡ true = rw h.0.1 at h.1.0 in rw h.0.1 (comes h.0.0.kind k)
+  scheduled : (x c : Obj) → AllPassed p (IsObject x ∷ IsImmediate x ∷ IsNotDoomed x ∷ IsContext c ∷ []) → waits_as_row what.Immediate (row_of p.rows x) ≡ true
+  scheduled x c h = let k : is_immediate h.0.0.kind ≡ true = rw h.0.1 at h.1.0 in rw h.0.1 (comes h.0.0.kind k)
     where
       comes : (k : Kind) → is_immediate k ≡ true → waits_as what.Immediate k ≡ true
       comes kind.Immediate e = refl
       comes _ e = cc
 
   -- it is an event
-  event : (x : Obj) → AllPassed p (IsObject x ∷ IsImmediate x ∷ IsNotDoomed x ∷ []) → is_event_row (row_of p.rows x) ≡ true
-  event x h = let k : is_immediate h.0.0.kind ≡ true = rw h.0.1 at h.1.0 in rw h.0.1 (comes h.0.0.kind k)
+  event : (x c : Obj) → AllPassed p (IsObject x ∷ IsImmediate x ∷ IsNotDoomed x ∷ IsContext c ∷ []) → is_event_row (row_of p.rows x) ≡ true
+  event x c h = let k : is_immediate h.0.0.kind ≡ true = rw h.0.1 at h.1.0 in rw h.0.1 (comes h.0.0.kind k)
     where
       comes : (k : Kind) → is_immediate k ≡ true → is_event k ≡ true
       comes kind.Immediate e = refl
@@ -196,21 +198,22 @@ module _ (f : Frame) (fs : List Frame) (p : Pool) (s : Sound f fs p) where
   each (call.Count o) h = (tt, omega arith, tt, omega arith)
   each (call.Sum o) h = (tt, omega arith, tt, omega arith)
   each (call.Report o) h = (tt, omega arith, tt, omega arith)
+  each (call.Context o) h = (record { there = h.0; target = λ t e. cc }, omega arith, tt, omega arith)
   each (call.Immediate o) h = (record { there = h.0; target = λ t e. cc }, omega arith, tt, omega arith)
-  each (call.Schedule x routine user) h = by_test (nat_eq routine 0)
+  each (call.Schedule x routine user c) h = by_test (nat_eq routine 0)
       (λ t. rw t (tt, omega arith, tt, omega arith))
-      (λ t. rw t ((event x h, record { comes = scheduled x h; ready = λ i. with-own p.handlers x (record { routine = routine; user = user }) }), omega arith, tt, omega arith))
+      (λ t. rw t ((event x c h, record { comes = scheduled x c h; ready = λ i. with-own p.handlers x (record { routine = routine; user = user; context = c }) }), omega arith, tt, omega arith))
   each (call.Unschedule x) h = (tt, omega arith, tt, omega arith)
-  each (call.Timer o time routine user) h =
+  each (call.Timer o time routine user c) h =
       let n : Obj = record { 0 = p.next } in
       let self : same n n ≡ true = same-equal n n refl in
-      ((record { there = h.0; target = λ t e. cc }, (rw self refl, record { comes = rw self refl; ready = λ i. with-own p.handlers n (record { routine = routine; user = user }) })), omega arith, tt, omega arith)
-  each (call.Fd o fd flags routine user) h =
+      ((record { there = h.0; target = λ t e. cc }, (rw self refl, record { comes = rw self refl; ready = λ i. with-own p.handlers n (record { routine = routine; user = user; context = c }) })), omega arith, tt, omega arith)
+  each (call.Fd o fd flags routine user c) h =
       let n : Obj = record { 0 = p.next } in
       let self : same n n ≡ true = same-equal n n refl in (
         (
           record { there = h.0; target = λ t e. cc },
-          (rw self refl, record { comes = rw self (refl, refl); ready = with-own p.handlers n (record { routine = routine; user = user }); free = h.1.1.0; open_one = h.1.0 }),
+          (rw self refl, record { comes = rw self (refl, refl); ready = with-own p.handlers n (record { routine = routine; user = user; context = c }); free = h.1.1.0; open_one = h.1.0 }),
         ),
         omega arith,
         tt,
@@ -247,9 +250,9 @@ module _ (f : Frame) (fs : List Frame) (p : Pool) (s : Sound f fs p) where
   each (call.Stop q) h = (tt, omega arith, tt, omega arith)
   each (call.Length q) h = (tt, omega arith, tt, omega arith)
   each (call.Running q) h = (tt, omega arith, tt, omega arith)
-  each call.Pending h = (tt, omega arith, tt, omega arith)
+  each (call.Pending c) h = (tt, omega arith, tt, omega arith)
   each call.Now h = tt
-  each call.Turn h = tt
+  each (call.Turn c) h = h.0
 
   pub may : (c : Call) → refusals p c ≡ [] → May p (plan p c)
   may c none = each c (all-pass p (tests c) none)

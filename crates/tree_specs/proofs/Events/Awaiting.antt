@@ -13,10 +13,10 @@ use Rattle.tree_specs.specs.declared.queue.QueueEntry.{QueueEntry}
 use Rattle.tree_specs.specs.declared.moment.What.{What}
 use Rattle.tree_specs.specs.declared.moment.What.TheVariants.{Immediate, Timer, Descriptor}
 use Rattle.tree_specs.specs.declared.watch.Watch.{Watch}
-use Rattle.tree_specs.specs.Words.Objects.{same}
+use Rattle.tree_specs.specs.Words.Objects.{same, first_context}
 use Rattle.tree_specs.specs.Tree.Targets.{target_of}
 use Rattle.tree_specs.specs.Tree.Pool.{Pool, row_of, target_at, changed, without, add, let_go, looked_after, look_at, remove, place, set_mark, marked_row, set_handler, schedule, unschedule, arm, disarm, watch, rewatch, turn_back, open_descriptor, close_descriptor}
-use Rattle.tree_specs.specs.Events.Pending.{is_scheduled, scheduled, unscheduled}
+use Rattle.tree_specs.specs.Events.Pending.{is_scheduled, scheduled, unscheduled, disarmed}
 use Rattle.tree_specs.specs.Events.Queues.{entry_of, without_entry, next_of}
 use Rattle.tree_specs.specs.Events.Rotation.{is_watching, is_watched, closes_with, unwatched}
 use Rattle.tree_specs.specs.Events.Descriptors.{Descriptors, is_open_in, shut}
@@ -27,8 +27,8 @@ use Rattle.tree_specs.proofs.Tree.Numbered.{by_test, same-true, same-equal, same
 use Rattle.tree_specs.proofs.Tree.Rows.{row_of-changed-other, row_of-without-other, row_of-placed-other, row_of-placed-same}
 use Rattle.tree_specs.specs.Events.Handlers.{handler_of}
 use Rattle.tree_specs.proofs.Events.EntryLaws.{with-same, with-other, without-same, without-other}
-use Rattle.tree_specs.proofs.Events.PendingLaws.{unscheduled-other, scheduled-either, disarmed-other, armed-either}
-use Rattle.tree_specs.proofs.Events.RotationLaws.{unwatched-watched, unwatched-other, unwatched-distinct, unwatched-freed, closes-found, watched-watching, watched-watched, watched-distinct, rewatched-watching, rewatched-watched, rewatched-distinct, turned-watching, turned-watched, turned-distinct}
+use Rattle.tree_specs.proofs.Events.PendingLaws.{unscheduled-other, scheduled-either, disarmed-other, armed-either, without-scheduled, without-armed}
+use Rattle.tree_specs.proofs.Events.RotationLaws.{without-watching, without-watched, without-distinct, unwatched-watched, unwatched-other, unwatched-distinct, unwatched-freed, closes-found, watched-watching, watched-watched, watched-distinct, rewatched-watching, rewatched-watched, rewatched-distinct, turned-watching, turned-watched, turned-distinct}
 use Rattle.tree_specs.proofs.Events.DescriptorLaws.{opened-still, closed-other}
 
 -- ---- rows that come
@@ -141,8 +141,8 @@ pub gone-awaits : (g : Row → Row) (p : Pool) (x : Obj) → ((r : Row) → (g r
 gone-awaits g p x serial kind look a = record {
   events = λ w y h. let o = other w y h in rw (row_of-changed-other g p.rows x y serial o.1) o.0;
   handlers = λ y e. a.handlers y (sym (changed-event g p.rows x y serial kind) ∙ e);
-  distinct = unwatched-distinct p.ring x a.distinct;
-  watched = λ fd h. still_open fd (closes_with p.ring x) refl h;
+  distinct = without-distinct (unwatched p.ring x) x (unwatched-distinct p.ring x a.distinct);
+  watched = λ fd h. still_open fd (closes_with p.ring x) refl (without-watched (unwatched p.ring x) x fd h);
 }
   where
     IsOther : What → Obj → Type 0
@@ -153,9 +153,9 @@ gone-awaits g p x serial kind look a = record {
 
     -- those that come soon: the others, and the queue
     after : (q y : Obj) (b : Bool) → (b ≡ true → MayCome Immediate (row_of p.rows q) × (is_event_row (row_of p.rows q) ≡ false) × (x ≢ q))
-        → is_scheduled (if b then scheduled (unscheduled p.soon x) q else unscheduled p.soon x) y ≡ true → IsOther Immediate y
+        → is_scheduled (if b then scheduled (unscheduled p.soon x) q first_context else unscheduled p.soon x) y ≡ true → IsOther Immediate y
     after q y false may h = left y h
-    after q y true may h = elim (scheduled-either (unscheduled p.soon x) q y h) [
+    after q y true may h = elim (scheduled-either (unscheduled p.soon x) q first_context y h) [
       | inl l ↦ left y l
       | inr is ↦
           let m = may refl in
@@ -167,9 +167,9 @@ gone-awaits g p x serial kind look a = record {
     soon (Some e) may y h = after e.queue y (is_some (next_of (without_entry p.queues x) e.queue)) may h
 
     other : (w : What) (y : Obj) → waits w (let_go p x g) y ≡ true → IsOther w y
-    other Immediate y h = soon (entry_of p.queues x) look y h
-    other Timer y h = let o = disarmed-other p.times x y h in (a.events Timer y o.0, o.1)
-    other Descriptor y h = let o = unwatched-other p.ring x y h in (a.events Descriptor y o.0, o.1)
+    other Immediate y h = soon (entry_of p.queues x) look y (without-scheduled (looked_after (without_entry p.queues x) (entry_of p.queues x) (unscheduled p.soon x)) x y h)
+    other Timer y h = let o = disarmed-other p.times x y (without-armed (disarmed p.times x) x y h) in (a.events Timer y o.0, o.1)
+    other Descriptor y h = let o = unwatched-other p.ring x y (without-watching (unwatched p.ring x) x y h) in (a.events Descriptor y o.0, o.1)
     other _ y h = cc
 
     -- nobody else watches the descriptor that is closed with it
@@ -251,11 +251,11 @@ handled-awaits p x h there a = record { events = events; handlers = handlers; di
         (λ t. let e' : is_event_row (row_of p.rows x) ≡ false = subst (λ (z : Obj). is_event_row (row_of p.rows z) ≡ false) (same-true y x t) e in let bad : true ≡ false = sym there ∙ e' in cc)
         (λ t. with-other p.handlers x y h t ∙ a.handlers y e)
 
-pub scheduled-awaits : (p : Pool) (x : Obj) → MayCome Immediate (row_of p.rows x) → IsHandled (row_of p.rows x) (handler_of p.handlers x) → Awaits p → Awaits (schedule p x)
-scheduled-awaits p x comes ready a = record { events = events; handlers = a.handlers; distinct = a.distinct; watched = a.watched }
+pub scheduled-awaits : (p : Pool) (x c : Obj) → MayCome Immediate (row_of p.rows x) → IsHandled (row_of p.rows x) (handler_of p.handlers x) → Awaits p → Awaits (schedule p x c)
+scheduled-awaits p x c comes ready a = record { events = events; handlers = a.handlers; distinct = a.distinct; watched = a.watched }
   where
-    events : (w : What) (y : Obj) → waits w (schedule p x) y ≡ true → MayCome w (row_of p.rows y) × IsHandled (row_of p.rows y) (handler_of p.handlers y)
-    events Immediate y h = elim (scheduled-either p.soon x y h) [
+    events : (w : What) (y : Obj) → waits w (schedule p x c) y ≡ true → MayCome w (row_of p.rows y) × IsHandled (row_of p.rows y) (handler_of p.handlers y)
+    events Immediate y h = elim (scheduled-either p.soon x c y h) [
       | inl l ↦ a.events Immediate y l
       | inr e ↦ subst (λ (z : Obj). MayCome Immediate (row_of p.rows z) × IsHandled (row_of p.rows z) (handler_of p.handlers z)) e (comes, ready)
     ]
@@ -267,15 +267,15 @@ scheduled-awaits p x comes ready a = record { events = events; handlers = a.hand
 pub looked-awaits : (p : Pool) (q : Obj) → MayCome Immediate (row_of p.rows q) → IsHandled (row_of p.rows q) (handler_of p.handlers q) → Awaits p → Awaits (look_at p q)
 looked-awaits p q comes ready a = each (is_some (next_of p.queues q))
   where
-    each : (b : Bool) → Awaits (record p { soon = if b then scheduled p.soon q else p.soon })
-    each true = scheduled-awaits p q comes ready a
+    each : (b : Bool) → Awaits (record p { soon = if b then scheduled p.soon q first_context else p.soon })
+    each true = scheduled-awaits p q first_context comes ready a
     each false = a
 
-pub armed-awaits : (p : Pool) (x : Obj) (time number : ℕ) → MayCome Timer (row_of p.rows x) → IsHandled (row_of p.rows x) (handler_of p.handlers x) → Awaits p → Awaits (arm p x time number)
-armed-awaits p x time number comes ready a = record { events = events; handlers = a.handlers; distinct = a.distinct; watched = a.watched }
+pub armed-awaits : (p : Pool) (x : Obj) (time number : ℕ) (c : Obj) → MayCome Timer (row_of p.rows x) → IsHandled (row_of p.rows x) (handler_of p.handlers x) → Awaits p → Awaits (arm p x time number c)
+armed-awaits p x time number c comes ready a = record { events = events; handlers = a.handlers; distinct = a.distinct; watched = a.watched }
   where
-    events : (w : What) (y : Obj) → waits w (arm p x time number) y ≡ true → MayCome w (row_of p.rows y) × IsHandled (row_of p.rows y) (handler_of p.handlers y)
-    events Timer y h = elim (armed-either p.times x time number y h) [
+    events : (w : What) (y : Obj) → waits w (arm p x time number c) y ≡ true → MayCome w (row_of p.rows y) × IsHandled (row_of p.rows y) (handler_of p.handlers y)
+    events Timer y h = elim (armed-either p.times x time number c y h) [
       | inl l ↦ a.events Timer y l
       | inr e ↦ subst (λ (z : Obj). MayCome Timer (row_of p.rows z) × IsHandled (row_of p.rows z) (handler_of p.handlers z)) e (comes, ready)
     ]
@@ -317,16 +317,16 @@ ring-awaits p ring comes distinct still_open a = record { events = events; handl
     events Timer y h = a.events Timer y h
     events _ y h = cc
 
-pub watching-awaits : (p : Pool) (x : Obj) (fd flags : ℕ) → MayCome Descriptor (row_of p.rows x) → IsHandled (row_of p.rows x) (handler_of p.handlers x) → is_watching p.ring x ≡ false → is_watched p.ring fd ≡ false
-    → is_open p fd ≡ true → Awaits p → Awaits (watch p x fd flags)
-watching-awaits p x fd flags comes ready new free still_open a =
-    ring-awaits p (watch p x fd flags).ring
-    (λ y h. elim (watched-watching p.ring x fd flags y h) [
+pub watching-awaits : (p : Pool) (x : Obj) (fd flags : ℕ) (c : Obj) → MayCome Descriptor (row_of p.rows x) → IsHandled (row_of p.rows x) (handler_of p.handlers x) → is_watching p.ring x ≡ false → is_watched p.ring fd ≡ false
+    → is_open p fd ≡ true → Awaits p → Awaits (watch p x fd flags c)
+watching-awaits p x fd flags c comes ready new free still_open a =
+    ring-awaits p (watch p x fd flags c).ring
+    (λ y h. elim (watched-watching p.ring x fd flags c y h) [
       | inl l ↦ a.events Descriptor y l
       | inr e ↦ subst (λ (z : Obj). MayCome Descriptor (row_of p.rows z) × IsHandled (row_of p.rows z) (handler_of p.handlers z)) e (comes, ready)
     ])
-    (watched-distinct p.ring x fd flags a.distinct new free)
-    (λ g h. elim (watched-watched p.ring x fd flags g h) [
+    (watched-distinct p.ring x fd flags c a.distinct new free)
+    (λ g h. elim (watched-watched p.ring x fd flags c g h) [
       | inl l ↦ a.watched g l
       | inr e ↦ subst (λ (n : ℕ). is_open p n ≡ true) e still_open
     ]) a

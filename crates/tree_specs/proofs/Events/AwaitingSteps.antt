@@ -1,4 +1,13 @@
 -- Each step leaves what waits as it must be.
+use Rattle.tree_specs.proofs.Calls.NewEvents.{queue-no-context}
+use Rattle.tree_specs.specs.Tree.Pool.{enter, exit, soon_here, times_here}
+use Rattle.tree_specs.specs.Words.Objects.{first_context}
+use Rattle.tree_specs.specs.declared.coming.Coming.{Coming}
+use Rattle.tree_specs.specs.declared.frame.TurnFrame.TheVariants.{Closing}
+use Rattle.tree_specs.specs.Machine.Table.{closing_step}
+use Rattle.tree_specs.specs.Calls.Refusals.{is_doomed}
+use Rattle.tree_specs.specs.Calls.Plans.Change.{Enter}
+use Rattle.tree_specs.proofs.Calls.NewEvents.{request-no-context}
 use Rattle.std.proofs.Common.{◌≡◌, ℕ, List, [], ◌∷◌, Option, Some, None, Bool, true, false, nat_eq, nat_le, ◌<◌, arith, refl, sym, ◌∙◌, ap, subst, inl, inr}
 use Rattle.step_machine.specs.Machine.{Move as Do}
 use Rattle.tree_specs.specs.declared.object.Obj.{Obj}
@@ -147,9 +156,9 @@ leaving x h fs p s hold = each (entry_of p.queues x) refl
     rows None t = cc
     rows (Some r) t = let k = kinds r.kind t in (k.0, k.1, λ z i. (let bad : true ≡ false = sym i.0 ∙ k.2 in cc))
 
-    spared : (q : Obj) → has_entries p.queues q ≡ true → is_doomed p q ≡ false
-    spared q t = elim (hold.idle q t) [
-      | inl quiet ↦ quiet-spared (row_of p.rows q) quiet
+    spared : (q : Obj) → is_queue_row (row_of p.rows q) ≡ true → has_entries p.queues q ≡ true → is_doomed p q ≡ false
+    spared q row t = elim (hold.idle q t) [
+      | inl quiet ↦ quiet-spared (row_of p.rows q) (queue-no-context (row_of p.rows q) row) quiet
       | inr d ↦ drained-spared (frame.Free (Leaving x h)) fs p q s d
     ]
 
@@ -166,7 +175,7 @@ leaving x h fs p s hold = each (entry_of p.queues x) refl
         let i = find-waiting p p.queues.entries x w hold.waiting e in
         let r = rows (row_of p.rows w.queue) i.queue in
         let had = has-without (λ z. not (eq_by_cmp nat_cmp x.0 z.0)) p.queues.entries w.queue (runs_on (without_entry p.queues x) w.queue t) in
-        (comes Immediate (row_of p.rows w.queue) r.0 (spared w.queue had), r.1, λ is. r.2 w.request (subst (λ (z : Obj). IsEntryRow w.request (row_of p.rows z)) is i.entry))
+        (comes Immediate (row_of p.rows w.queue) r.0 (spared w.queue i.queue had), r.1, λ is. r.2 w.request (subst (λ (z : Obj). IsEntryRow w.request (row_of p.rows z)) is i.entry))
 
 judged : (x : Obj) (h v : ℕ) (p : Pool) → Awaits p → Awaits (pool_after (judge_step x h v p))
 judged x h v p a = by_test (nat_eq v 0)
@@ -266,16 +275,25 @@ entered-awaits p q x trigger nobody queue may ready a =
     looked-awaits b q (rw other may) (rw other ready)
     (kept-awaits (add p kind.Entry (Of x) 0 (codes "entry")) b (added-awaits p kind.Entry (Of x) 0 (codes "entry") nobody a) refl refl refl refl refl refl)
 
+-- a turn of a context begins
+entered-context : (p : Pool) (c : Obj) → Awaits p → Awaits (enter p c)
+entered-context p c a = by_test (same c first_context)
+    (λ t. rw t a)
+    (λ t. rw t (marked-awaits Busy (record p { turning = Some c }) c refl (kept-awaits p (record p { turning = Some c }) a refl refl refl refl refl refl)))
+
+exited-context : (p : Pool) (c : Obj) → Awaits p → Awaits (exit p c)
+exited-context p c a = marked-awaits Quiet (record p { turning = None }) c refl (kept-awaits p (record p { turning = None }) a refl refl refl refl refl refl)
+
 change-awaits : (f : Frame) (fs : List Frame) (p : Pool) (c : Change) → Sound f fs p → ((q : Pool) → Rests f fs q) → MayDo p c → AreNew p c → Awaits p → Awaits (changed_by c p)
 change-awaits f fs p Nothing s calm may new a = a
 change-awaits f fs p (Edit x g) s calm may new a = changed-awaits g p x (record { serial = may.place.serial; kind = may.place.kind; mark = λ r l. rw (may.mark r) l }) a
 change-awaits f fs p (Add kind o size name) s calm may new a = added-awaits p kind o size name (fresh p.next _ (s.valid (record { 0 = p.next }))) a
 change-awaits f fs p (Place o x) s calm may new a = placed-awaits p o x may a
 change-awaits f fs p (Handle x handler) s calm may new a = handled-awaits p x handler may a
-change-awaits f fs p (Schedule x) s calm may new a = scheduled-awaits p x (comes Immediate (row_of p.rows x) may.comes new) may.ready a
+change-awaits f fs p (Schedule x c) s calm may new a = scheduled-awaits p x c (comes Immediate (row_of p.rows x) may.comes new) may.ready a
 change-awaits f fs p (Unschedule x) s calm may new a = unscheduled-awaits p x a
-change-awaits f fs p (Arm x time number) s calm may new a = armed-awaits p x time number (comes Timer (row_of p.rows x) may.comes new) may.ready a
-change-awaits f fs p (Watches x fd flags) s calm may new a = watching-awaits p x fd flags may.comes (λ i. may.ready) new may.free may.open_one a
+change-awaits f fs p (Arm x time number c) s calm may new a = armed-awaits p x time number c (comes Timer (row_of p.rows x) may.comes new) may.ready a
+change-awaits f fs p (Watches x fd flags c) s calm may new a = watching-awaits p x fd flags c may.comes (λ i. may.ready) new may.free may.open_one a
 change-awaits f fs p (Rewatch x g) s calm may new a = rewatched-awaits p x g may.object may.fd a
 change-awaits f fs p (Close fd) s calm may new a = closed-awaits p fd may a
 change-awaits f fs p (AddRequest o size name) s calm may new a = requested-awaits p o size name s.valid a
@@ -286,13 +304,14 @@ change-awaits f fs p (AddQueue o name) s calm may new a =
     kept-awaits (add p kind.Queue o 0 name) (add_queue p o name) (added-awaits p kind.Queue o 0 name (fresh p.next _ (s.valid (record { 0 = p.next }))) a) refl refl refl refl refl refl
 change-awaits f fs p (AddEntry q x trigger) s calm may new a = entered-awaits p q x trigger may.3 may.2 (comes Immediate (row_of p.rows q) may.1.comes new) may.1.ready a
 change-awaits f fs p (LooksAt q) s calm may new a = looked-awaits p q (comes Immediate (row_of p.rows q) may.comes new) may.ready a
+change-awaits f fs p (Enter c) s calm may new a = entered-context p c a
 change-awaits f fs p (Then c d) s calm may new a =
     let t = change-sound f f fs p c s may.0 (λ y. refl) calm (calm (changed_by c p)) in
     change-awaits f fs (changed_by c p) d t calm may.1 new.1 (change-awaits f fs p c s calm may.0 new.0 a)
 
-turning-awaits : (q : Ask) (p : Pool) → Awaits p → Awaits (pool_after (turning_step q p))
-turning-awaits ask.Quiet p a = a
-turning-awaits _ p a = a
+turning-awaits : (q : Ask) (x : Obj) (p : Pool) → Awaits p → Awaits (pool_after (turning_step q x p))
+turning-awaits ask.Quiet x p a = entered-context p x a
+turning-awaits _ x p a = a
 
 planned-awaits : (q : Ask) (c : Call) (fs : List Frame) (p : Pool) → Sound (frame.Call (Doing q c)) fs p → (plan : Plan) → May p plan → OnlyNew p plan → Awaits p → Awaits (pool_after (plan_step q plan p))
 planned-awaits q c fs p s (Does change notice r) may new a = each notice
@@ -300,7 +319,7 @@ planned-awaits q c fs p s (Does change notice r) may new a = each notice
     each : (notice : Option Notice) → Awaits (pool_after (notice_step notice q r (changed_by change p)))
     each None = change-awaits (frame.Call (Doing q c)) fs p change s (λ q'. tt) may.0 new a
     each (Some n) = change-awaits (frame.Call (Doing q c)) fs p change s (λ q'. tt) may.0 new a
-planned-awaits q c fs p s Turns may new a = turning-awaits q p a
+planned-awaits q c fs p s (Turns x) may new a = turning-awaits q x p a
 planned-awaits q c fs p s (Works change errand x) may new a = change-awaits (frame.Call (Doing q c)) fs p change s (λ q'. tt) may.0 new a
 planned-awaits q c fs p s _ may new a = a
 
@@ -311,20 +330,22 @@ has-come : (x : Obj) (now : ℕ) (p : Pool) → Awaits p → Awaits (pool_after 
 has-come x now p a = by_test (is_noted p.requests x) (λ t. rw t (disarmed-awaits p x a)) (λ t. rw t (disarmed-awaits p x a))
 
 taking : (p : Pool) → Awaits p → Awaits (pool_after (turn_step Taking p))
-taking p a = each (first p.soon)
+taking p a = each (first (soon_here p))
   where
     due : (o : Option Due) → Awaits (pool_after (due_step o p))
     due None = a
     due (Some d) = by_test (nat_eq d.time 0) (λ t. rw t (has-come d.object 0 p a)) (λ t. rw t a)
 
-    each : (o : Option Obj) → Awaits (pool_after (taking_step o p))
-    each None = due (first p.times)
-    each (Some x) = by_test (is_noted p.requests x)
+    each : (o : Option Coming) → Awaits (pool_after (taking_step o p))
+    each None = due (first (times_here p))
+    each (Some y) =
+        let x : Obj = y.object in
+        by_test (is_noted p.requests x)
         (λ t. rw t (unscheduled-awaits p x a))
         (λ t. by_test (has_queue p.queues x) (λ u. rw (t, u) (unscheduled-awaits p x a)) (λ u. rw (t, u) (unscheduled-awaits p x a)))
 
 timed : (again : Bool) (now : ℕ) (p : Pool) → Awaits p → Awaits (pool_after (turn_step (Timed again now) p))
-timed again now p a = each (first p.times)
+timed again now p a = each (first (times_here p))
   where
     early : (again : Bool) (d : Due) → Awaits (pool_after (early_step again d now p))
     early true d = a
@@ -352,6 +373,11 @@ turn-awaits (Handled w x) p a = each (goes_after p w x)
     each : (b : Bool) → Awaits (pool_after (handled_step x b p))
     each true = marked-awaits Quiet p x refl a
     each false = marked-awaits Quiet p x refl a
+turn-awaits (Closing v) p a = each p.turning
+  where
+    each : (o : Option Obj) → Awaits (pool_after (closing_step v o p))
+    each None = a
+    each (Some c) = by_test (is_doomed p c) (λ t. rw t (exited-context p c a)) (λ t. rw t (exited-context p c a))
 turn-awaits _ p a = a
 
 -- ---- questions to the outside
@@ -404,10 +430,10 @@ module _ (fs : List Frame) (p : Pool) (a : Awaits p) where
       waits None t = cc
       waits (Some r) t = kinds r.kind t
 
-      comes-soon : Awaits (schedule q x)
+      comes-soon : Awaits (schedule q x first_context)
       comes-soon =
           let w = waits (row_of p.rows x) row in
-          scheduled-awaits q x (comes Immediate (row_of p.rows x) w.0 (quiet-spared (row_of p.rows x) quiet)) (λ i. let bad : true ≡ false = sym i ∙ w.1 in cc)
+          scheduled-awaits q x first_context (comes Immediate (row_of p.rows x) w.0 (quiet-spared (row_of p.rows x) (request-no-context (row_of p.rows x) row) quiet)) (λ i. let bad : true ≡ false = sym i ∙ w.1 in cc)
           (kept-awaits p q a refl refl refl refl refl refl)
 
       back : (o : Option Handler) → Awaits (pool_after (callback_step x errand o p))

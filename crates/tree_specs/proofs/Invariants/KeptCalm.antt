@@ -1,5 +1,9 @@
 -- What each step keeps of what is so of the works below one: the host's own caller stands on nothing, and nothing goes on with
 -- a request that is to be notified.
+use Rattle.tree_specs.specs.Machine.Table.{closing_step}
+use Rattle.tree_specs.specs.Calls.Refusals.{is_doomed}
+use Rattle.tree_specs.specs.Tree.Pool.{exit}
+use Rattle.tree_specs.proofs.Invariants.Waiters.{ForParting}
 use Rattle.std.proofs.Common.{◌≡◌, ℕ, suc, zero, List, [], ◌∷◌, Option, Some, None, Bool, true, false, refl, sym, ◌∙◌, subst}
 use Rattle.step_machine.specs.Machine.{Move}
 use Rattle.step_machine.specs.Machine.{Move as Do}
@@ -85,6 +89,7 @@ ended a (g ∷ gs) p k w h = (below g (waiter g gs w.0) h.0, h.1)
     below _ (ForHandler w x handler occasion) h = h
     below _ (ForClear x) h = h
     below _ (ForServed x) h = h
+    below _ (ForParting x v) h = h
     below _ _ h = tt
 
 -- nothing goes on with a request that is still to be received, so no work below frees it
@@ -127,9 +132,9 @@ planned-calm q c fs p k h (Frees x) may s n = (tt, h)
 planned-calm q c fs p k h (Unlinks o x) may s n = (tt, h)
 planned-calm q c fs p k h (Empties x) may s n = (tt, h)
 planned-calm q c fs p k h (Asks outside) may s n = (tt, h)
-planned-calm q c fs p k h Turns may s n = turns q h
+planned-calm q c fs p k h (Turns x) may s n = turns q h
   where
-    turns : (q : Ask) → AllCalm (frame.Call (Doing q c) ∷ fs) → CalmBy (turning_step q p) fs k
+    turns : (q : Ask) → AllCalm (frame.Call (Doing q c) ∷ fs) → CalmBy (turning_step q x p) fs k
     turns ask.Quiet h = (h.0, h)
     turns q h = (ask-later q (reply.No refusal.Nested) fs h.0, h.1)
 planned-calm q c fs p k h (Works change (Finish state) x) may s n = (finishing-calm x state _ _ s n, h)
@@ -140,11 +145,11 @@ planned-calm q c fs p k h (Works change Notify x) may s n = absurd may.3
 -- ---- turns
 
 passes-calm : (p : Pool) (fs : List Frame) (k : ℕ) (m : Step) → ClaimNothing fs → AllCalm fs → Passes p m → CalmBy m fs k
-passes-calm p fs k _ c h (Pass g q rows next notes queues times plain) = (c, h)
-passes-calm p fs k _ c h (Trigger x q rows next notes queues times queue) = (c, (c, h))
-passes-calm p fs k _ c h (Serve Notify x q rows next notes queues times served noted) = (c x, (c, h))
-passes-calm p fs k _ c h (Serve (Finish state.TimedOut) x q rows next notes queues times served noted) = (c x, (c, h))
-passes-calm p fs k _ c h (Serve _ x q rows next notes queues times served noted) = absurd served
+passes-calm p fs k _ c h (Pass g q rows next notes queues turning times plain) = (c, h)
+passes-calm p fs k _ c h (Trigger x q rows next notes queues turning times queue) = (c, (c, h))
+passes-calm p fs k _ c h (Serve Notify x q rows next notes queues turning times served noted) = (c x, (c, h))
+passes-calm p fs k _ c h (Serve (Finish state.TimedOut) x q rows next notes queues turning times served noted) = (c x, (c, h))
+passes-calm p fs k _ c h (Serve _ x q rows next notes queues turning times served noted) = absurd served
 
 turn-calm : (f : TurnFrame) (fs : List Frame) (p : Pool) (k : ℕ) → Sound (frame.Turn f) fs p → ClaimNothing fs → AllCalm fs → CalmBy (turn_step f p) fs k
 turn-calm Taking fs p k s c h = passes-calm p fs k _ c h (look-passes Taking p tt)
@@ -165,7 +170,11 @@ turn-calm (Handled w x) fs p k s c h = each (goes_after p w x)
     each : (b : Bool) → CalmBy (handled_step x b p) fs k
     each true = (tt, (c, h))
     each false = (c, h)
-turn-calm (Closing v) fs p k s c h = ended (Turned v) fs p k s.waiting h
+turn-calm (Closing v) fs p k s c h = each p.turning
+  where
+    each : (o : Option Obj) → CalmBy (closing_step v o p) fs k
+    each None = ended (Turned v) fs p k s.waiting h
+    each (Some x) = by_test (is_doomed p x) (λ d. rw d (tt, (c, h))) (λ d. rw d (ended (Turned v) fs (exit p x) k s.waiting h))
 turn-calm _ fs p k s c h = absurd s.rests
 
 outside-calm : (f : OutsideFrame) (fs : List Frame) (p : Pool) (k : ℕ) → Sound (frame.Outside f) fs p → AllCalm fs → CalmBy (outside_step f p) fs k

@@ -1,4 +1,5 @@
 -- What the giving up of an object keeps of what holds at every moment.
+use Rattle.tree_specs.proofs.Invariants.Waiters.{ForParting}
 use Rattle.std.proofs.Common.{◌≡◌, ◌≢◌, ℕ, List, [], ◌∷◌, Option, Some, None, true, false, refl, sym, ◌∙◌, ap, subst}
 use Rattle.std.specs.Prelude.{unwrap_or, ◌||◌}
 use Rattle.tree_specs.specs.declared.object.Obj.{Obj}
@@ -91,6 +92,7 @@ releasing x fs p k s = each (newest_ref p.rows x) refl
         below : (g : Frame) → Waiter g → IsCalled (footing (g ∷ gs)) → Tries x (footing (g ∷ gs)) p
         below _ (ForFree q y) c = e
         below _ (ForClear y) c = e
+        below _ (ForParting y v) c = e
         below _ (ForRelease y) c = e
         below _ _ c = absurd c
 

@@ -1,4 +1,16 @@
 -- What each step keeps of what holds of queues.
+use Rattle.step_machine.specs.Machine.{Move as Do}
+use Rattle.tree_specs.specs.Words.Objects.{same}
+use Rattle.tree_specs.proofs.Invariants.Changes.{turning-row}
+use Rattle.tree_specs.proofs.Calls.Changes.{usable-row, usable-mark}
+use Rattle.tree_specs.specs.Invariants.Sound.{is_at_turn_mark, IsTurning}
+use Rattle.tree_specs.specs.Calls.Refusals.{is_doomed}
+use Rattle.tree_specs.specs.Machine.Table.{closing_step}
+use Rattle.tree_specs.specs.Tree.Pool.{exit, set_mark, marked_row}
+use Rattle.tree_specs.specs.declared.row.Mark.TheVariants.{Quiet, Busy, Doomed}
+use Rattle.tree_specs.specs.Calls.Passed.{IsUsable}
+use Rattle.tree_specs.specs.Calls.Plans.Change.{Enter}
+use Rattle.tree_specs.specs.Words.Objects.{first_context}
 use Rattle.std.proofs.Common.{◌≡◌, ℕ, suc, zero, nat_eq, List, [], ◌∷◌, Option, Some, None, true, false, Bool, refl, sym, ap, subst, ◌∙◌, inl, inr}
 use Rattle.std.specs.Prelude.{is_some, codes, ◌+◌}
 use Rattle.tree_specs.specs.declared.object.Obj.{Obj}
@@ -32,7 +44,7 @@ use Rattle.tree_specs.specs.declared.frame.RequestFrame.{RequestFrame}
 use Rattle.tree_specs.specs.declared.frame.RequestFrame.TheVariants as request
 use Rattle.tree_specs.specs.declared.frame.Answer.TheVariants.{Returned, Turned, Heard}
 use Rattle.tree_specs.specs.declared.free_step.FreeReply.TheVariants.{Ok as FreeOk}
-use Rattle.tree_specs.specs.Tree.Targets.{newest_ref, target_of}
+use Rattle.tree_specs.specs.Tree.Targets.{newest_ref, target_of, is_usable_mark, is_context}
 use Rattle.tree_specs.specs.Tree.Pool.{Pool, row_of, passes, set_mark, marked_row, run_queue, trigger, open_descriptor, finish, receive, renote, schedule, add, note, is_below, owner_of, newest_ref_of, is_dying_mark}
 use Rattle.tree_specs.specs.Events.Queues.{Head, head_of, has_entries, next_of, runs, has_queue, head_in}
 use Rattle.tree_specs.specs.Events.Requests.{note_of, is_unreceived, cleanup_in, cancel_in, cleaned, not_deferring, new_note}
@@ -85,7 +97,7 @@ change-queues : (fs gs : List Frame) (f : Frame) (below : List Frame) (p : Pool)
 change-queues fs gs f below p (Edit x g) s calm may keeps more h = changed-queues g fs gs p x may.row h may.is may.place.serial may.place.kind (ap is_dying_mark (may.mark may.row))
     (λ t o w. let k = may.place.kind may.row in (k' k w.0, may.mark may.row ∙ w.1, keeps may.row may.is w.0 ∙ w.2, may.place.owner may.row ∙ w.3)) (λ y ne t d. more y d)
     (λ t i. elim i [
-      | inl none ↦ inl (ap phase_of (may.mark may.row) ∙ none)
+      | inl none ↦ inl ((let a = may.mark may.row in let b = may.place.kind may.row in rw (a, b) refl) ∙ none)
       | inr d ↦ inr (more x d)
     ])
   where
@@ -107,14 +119,32 @@ change-queues fs gs f below p (Place o x) s calm may keeps more h = placed-queue
 change-queues fs gs f below p (AddQueue o name) s calm may keeps more h = new-queue-holds p (nobody p s.valid) fs gs o name more h
 change-queues fs gs f below p (AddEntry q x trigger) s calm may keeps more h = new-entry-holds p (nobody p s.valid) fs gs q x trigger may.0 may.2 (idle (row_of p.rows q) keeps) more h
   where
-    marks : (m : Mark) → is_going_mark m ≡ false → phase_of m ≡ []
-    marks Quiet e = refl
-    marks _ e = cc
+    marks : (k : Kind) (m : Mark) → is_going_mark m ≡ false → phase_of k m ≡ []
+    marks k Quiet e = refl
+    marks k _ e = cc
 
     idle : (w : Option Row) → passes (λ r. is_going_mark r.mark) w ≡ false → phases w ≡ []
     idle None e = refl
-    idle (Some r) e = marks r.mark e
+    idle (Some r) e = marks r.kind r.mark e
 change-queues fs gs f below p (Runs q b) s calm may keeps more h = ran-queues fs gs p q b more h
+change-queues fs gs f below p (Enter c) s calm may keeps more h = by_test (same c first_context)
+    (λ t. rw t (same-queues fs gs p p h refl refl (λ y u d. more y d)))
+    (λ t.
+    let u = usable-row p c may t in
+    let m = usable-mark u.row.kind u.row.mark u.context u.mark in
+    let k = u.context in
+    let b : QueuesHold gs (set_mark p c Busy) = changed-queues (marked_row Busy) fs gs p c u.row h u.is (λ r. refl) (λ r. refl) (sym (usable-live u.row.mark u.mark)) (λ v o i. let e = entry-context u.row.kind i.0 in let bad : true ≡ false = sym u.context ∙ e in cc)
+    (λ y ne v d. more y d) (λ v i. inl (rw k refl)) in
+    rw t (same-queues gs gs (set_mark p c Busy) (set_mark (record p { turning = Some c }) c Busy) b refl refl (λ y v d. d)))
+  where
+    usable-live : (m : Mark) → is_usable_mark m ≡ true → is_dying_mark m ≡ false
+    usable-live Quiet t = refl
+    usable-live Busy t = refl
+    usable-live _ t = cc
+
+    entry-context : (k : Kind) → is_entry k ≡ true → is_context k ≡ false
+    entry-context kind.Entry t = refl
+    entry-context _ t = cc
 change-queues fs gs f below p (Then c d) s calm may keeps more h =
     let t = change-sound f f below p c s may.0 (λ y. refl) calm (calm (changed_by c p)) in
     change-queues gs gs f below (changed_by c p) d t calm may.1 keeps.1 (λ y d. d) (change-queues fs gs f below p c s calm may.0 keeps.0 more h)
@@ -153,10 +183,11 @@ module _ (p : Pool) (refers : Refers p.rows) (distinct : Distinct p.rows) where
   each (call.Rename x name) h = λ r e entry. refl
   each (call.Resize x size) h = λ r e entry. refl
   each (call.Limit x max) h = λ r e entry. refl
+  each (call.Context o) h = (refl, refl)
   each (call.Immediate o) h = (refl, refl)
-  each (call.Schedule x routine user) h = by_test (nat_eq routine 0) (λ t. rw t tt) (λ t. rw t (tt, tt))
-  each (call.Timer o time routine user) h = ((refl, refl), (tt, tt))
-  each (call.Fd o fd flags routine user) h = ((refl, refl), (tt, tt))
+  each (call.Schedule x routine user c) h = by_test (nat_eq routine 0) (λ t. rw t tt) (λ t. rw t (tt, tt))
+  each (call.Timer o time routine user c) h = ((refl, refl), (tt, tt))
+  each (call.Fd o fd flags routine user c) h = ((refl, refl), (tt, tt))
   each (call.Error x error) h = by_test (nat_eq error 0) (λ t. rw t tt) (λ t. rw t tt)
   each (call.Endtime x time) h = (tt, tt)
   each (call.Enqueue q x routine user) h = h.1.1.0
@@ -185,9 +216,9 @@ planned-queued q c fs p k s u plan may keeps = each plan may keeps
     works change Cancel x may keeps = record { pool = over _ change may keeps (λ y d. d); works = tt; frees = (tt, (tt, u.frees.1)) }
     works change Notify x may keeps = record { pool = over _ change may keeps (λ y d. d); works = tt; frees = (tt, (tt, u.frees.1)) }
 
-    turning : (q' : Ask) → q ≡ q' → QueuedBy (turning_step q' p) fs k
-    turning ask.Quiet e = record { pool = stays _ (λ y d. d); works = tt; frees = (tt, (tt, u.frees.1)) }
-    turning q' e = record { pool = stays _ (λ y d. d); works = tt; frees = (tt, u.frees.1) }
+    turning : (q' : Ask) (x : Obj) → IsUsable p x → q ≡ q' → QueuedBy (turning_step q' x p) fs k
+    turning ask.Quiet x may e = record { pool = over _ (Enter x) may tt (λ y d. d); works = tt; frees = (tt, (tt, u.frees.1)) }
+    turning q' x may e = record { pool = stays _ (λ y d. d); works = tt; frees = (tt, u.frees.1) }
 
     each : (plan : Plan) → May p plan → PlanKeeps p plan → QueuedBy (plan_step q plan p) fs k
     each (Does change None r) may keeps = record { pool = over _ change may.0 keeps (λ y d. d); works = tt; frees = (tt, u.frees.1) }
@@ -196,17 +227,17 @@ planned-queued q c fs p k s u plan may keeps = each plan may keeps
     each (Unlinks o x) may keeps = record { pool = stays _ (λ y d. d); works = tt; frees = (tt, (tt, u.frees.1)) }
     each (Empties x) may keeps = record { pool = stays _ (λ y d. d); works = tt; frees = (tt, (tt, u.frees.1)) }
     each (Asks outside) may keeps = record { pool = stays _ (λ y d. d); works = tt; frees = (tt, (tt, u.frees.1)) }
-    each Turns may keeps = turning q refl
+    each (Turns x) may keeps = turning q x may refl
     each (Works change errand x) may keeps = works change errand x may.0 keeps
 
 -- ---- turns
 
 passes-queued : (f : TurnFrame) (fs : List Frame) (p : Pool) (k : ℕ) (m : Step) → Queued (frame.Turn f) fs p → Passes p m → QueuedBy m fs k
-passes-queued f fs p k _ u (Pass g q rows next notes queues times plain) = record { pool = goes (frame.Turn f) (frame.Turn g) fs p q rows queues (λ y d. d) u.pool; works = tt; frees = (tt, u.frees.1) }
-passes-queued f fs p k _ u (Trigger x q rows next notes queues times queue) = record { pool = same-queues (frame.Turn f ∷ fs) _ p q u.pool rows queues (λ y t d. d); works = tt; frees = (tt, (tt, u.frees.1)) }
-passes-queued f fs p k _ u (Serve Notify x q rows next notes queues times served noted) = record { pool = same-queues (frame.Turn f ∷ fs) _ p q u.pool rows queues (λ y t d. d); works = tt; frees = (tt, (tt, u.frees.1)) }
-passes-queued f fs p k _ u (Serve (Finish TimedOut) x q rows next notes queues times served noted) = record { pool = same-queues (frame.Turn f ∷ fs) _ p q u.pool rows queues (λ y t d. d); works = tt; frees = (tt, (tt, u.frees.1)) }
-passes-queued f fs p k _ u (Serve _ x q rows next notes queues times served noted) = absurd served
+passes-queued f fs p k _ u (Pass g q rows next notes queues turning times plain) = record { pool = goes (frame.Turn f) (frame.Turn g) fs p q rows queues (λ y d. d) u.pool; works = tt; frees = (tt, u.frees.1) }
+passes-queued f fs p k _ u (Trigger x q rows next notes queues turning times queue) = record { pool = same-queues (frame.Turn f ∷ fs) _ p q u.pool rows queues (λ y t d. d); works = tt; frees = (tt, (tt, u.frees.1)) }
+passes-queued f fs p k _ u (Serve Notify x q rows next notes queues turning times served noted) = record { pool = same-queues (frame.Turn f ∷ fs) _ p q u.pool rows queues (λ y t d. d); works = tt; frees = (tt, (tt, u.frees.1)) }
+passes-queued f fs p k _ u (Serve (Finish TimedOut) x q rows next notes queues turning times served noted) = record { pool = same-queues (frame.Turn f ∷ fs) _ p q u.pool rows queues (λ y t d. d); works = tt; frees = (tt, (tt, u.frees.1)) }
+passes-queued f fs p k _ u (Serve _ x q rows next notes queues turning times served noted) = absurd served
 
 -- an event is no entry, and no queue
 event-is : (w : What) (k : Kind) → comes_as w k ≡ true → (is_entry k ≡ false) × (is_queue k ≡ false)
@@ -231,7 +262,7 @@ begun-queued w x occasion h fs p e u =
 handled-queued : (w : What) (x : Obj) (fs : List Frame) (p : Pool) (k : ℕ) → Sound (frame.Turn (Handled w x)) fs p → Queued (frame.Turn (Handled w x)) fs p → QueuedBy (turn_step (Handled w x) p) fs k
 handled-queued w x fs p k s u = each (goes_after p w x)
   where
-    row : (r : Row) × (row_of p.rows x ≡ Some r) × IsLive r.mark × (claims x fs ≡ [])
+    row : (r : Row) × (row_of p.rows x ≡ Some r) × IsLive r.mark × (is_context r.kind ≡ false) × (claims x fs ≡ [])
     row = handling-row (row_of p.rows x) (claims x fs) (claim-here x InHandler (claims x fs) (row_of p.rows x) (s.open_frees x))
 
     live : (m : Mark) → IsLive m → is_dying_mark Quiet ≡ is_dying_mark m
@@ -262,8 +293,30 @@ turn-queued (Starting w x occasion) fs p k s b u = each (handler_for p w x) refl
 turn-queued (Firing w x h occasion) fs p k s b u = record { pool = goes (frame.Turn (Firing w x h occasion)) _ fs p p refl refl (λ y d. d) u.pool; works = tt; frees = (tt, u.frees.1) }
 turn-queued (Handling w x h occasion) fs p k s b u = record { pool = same-queues (frame.Turn (Handling w x h occasion) ∷ fs) _ p p u.pool refl refl (λ y t d. d); works = tt; frees = (tt, u.frees) }
 turn-queued (Handled w x) fs p k s b u = handled-queued w x fs p k s u
-turn-queued (Closing v) fs p k s b u = ended (Turned v) fs p k s.waiting (same-queues (frame.Turn (Closing v) ∷ fs) fs p p u.pool refl refl (λ y t d. d)) u.frees.1
-    (no-free-ends (frame.Turn (Closing v)) fs p FreeOk (λ z. z) s.waiting b) (no-work-over (frame.Turn (Closing v)) fs p (λ z. z) s.waiting b)
+turn-queued (Closing v) fs p k s b u = each p.turning refl
+  where
+    over : (q : Pool) → QueuesHold fs q → QueuedBy (Do.Done (Turned v) q) fs k
+    over q h = ended (Turned v) fs q k s.waiting h u.frees.1 (no-free-ends (frame.Turn (Closing v)) fs q FreeOk (λ z. z) s.waiting b) (no-work-over (frame.Turn (Closing v)) fs q (λ z. z) s.waiting b)
+
+    live : (m : Mark) → is_at_turn_mark m ≡ true → is_dying_mark Quiet ≡ is_dying_mark m
+    live Busy t = refl
+    live Doomed t = refl
+    live _ t = cc
+
+    out : (gs : List Frame) (c : Obj) (o : Option Row) → row_of p.rows c ≡ o → IsTurning o → ((y : Obj) → drains y (frame.Turn (Closing v) ∷ fs) ≡ true → drains y gs ≡ true) → QueuesHold gs (exit p c)
+    out gs c None e t more = absurd t
+    out gs c (Some r) e t more =
+        let q : Pool = record p { turning = None } in
+        changed-queues (marked_row Quiet) (frame.Turn (Closing v) ∷ fs) gs q c r (same-queues (frame.Turn (Closing v) ∷ fs) (frame.Turn (Closing v) ∷ fs) p q u.pool refl refl (λ y z d. d)) e (λ z. refl) (λ z. refl) (live r.mark t.1)
+        (λ z o i. (i.0, refl, i.2, i.3)) (λ y ne z d. more y d) (λ z i. inl refl)
+
+    each : (o : Option Obj) → p.turning ≡ o → QueuedBy (closing_step v o p) fs k
+    each None e = over p (same-queues (frame.Turn (Closing v) ∷ fs) fs p p u.pool refl refl (λ y t d. d))
+    each (Some c) e =
+        let t = turning-row p.turning p.rows c (row_of p.rows c) s.turned e refl in
+        by_test (is_doomed p c)
+        (λ d. rw d (record { pool = out _ c (row_of p.rows c) refl t (λ y z. z); works = tt; frees = (tt, (tt, u.frees.1)) }))
+        (λ d. rw d (over (exit p c) (out fs c (row_of p.rows c) refl t (λ y z. z))))
 turn-queued _ fs p k s b u = absurd s.rests
 
 -- ---- a question to the outside
@@ -317,7 +370,7 @@ module _ (fs : List Frame) (p : Pool) (k : ℕ) where
   notifies : (x : Obj) (errand : Errand) → IsRequested (footing fs) → Queued (frame.Request (request.Notifying x errand)) fs p → (o : Option Note) → QueuedBy (notifying_step x errand o p) fs k
   notifies x errand r u None = on (request.Notifying x errand) fs p k u _ p refl refl (over-here p r)
   notifies x errand r u (Some n) = by_test n.deferred
-      (λ t. let q : Pool = schedule (renote p x not_deferring) x in rw t (on (request.Notifying x errand) fs p k u _ q refl refl (over-here q r)))
+      (λ t. let q : Pool = schedule (renote p x not_deferring) x first_context in rw t (on (request.Notifying x errand) fs p k u _ q refl refl (over-here q r)))
       (λ t. rw t (back n.callback))
     where
       back : (o : Option Handler) → QueuedBy (callback_step x errand o p) fs k

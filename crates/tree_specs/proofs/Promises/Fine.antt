@@ -1,4 +1,6 @@
 -- An item is fine where it fits those before it and has its cause; what a work that ends answers keeps that so.
+use Rattle.tree_specs.specs.declared.frame.TurnFrame.TheVariants.{Parting}
+use Rattle.tree_specs.proofs.Invariants.Waiters.{ForParting}
 use Rattle.tree_specs.specs.Calls.Refusals.{is_held, is_running}
 use Rattle.std.proofs.Common.{◌≡◌, List, [], ◌∷◌, ◌++◌, Option, Some, None, true, false, refl, sym, ◌∙◌, subst, map}
 use Rattle.std.proofs.lemmas.List.{map_push}
@@ -209,6 +211,7 @@ resumed scenes f b (w ∷ ws) p a past stays stacked wait h = below w.work (wait
     below _ (ForTurn q) past on under h = next (frame.Call (Turning q)) past under (λ y k. k) (λ P k. later-hook P q (heard_in a) k) tt (caused-turn scenes w.note (heard_in a) on h)
     below _ (ForRequest q) past on under h = next (frame.Call (Requesting q)) past under (λ y k. k) (λ P k. later-hook P q (heard_in a) k) tt (caused-turn scenes w.note (heard_in a) on h)
     below _ (ForServed x) past on under h = next (frame.Turn (Serving x)) past under (λ y l. l) (λ P l. l) tt tt
+    below _ (ForParting x v) past on under h = next (frame.Turn (Parting x v)) past under (λ y l. l) (λ P l. l) tt tt
     below _ (ForReceived x) past on under h = next (frame.Free (Preparing x)) past under (λ y l. l) (λ P l. l) tt tt
     below _ (ForRoutine what x k errand) past on under h = next (frame.Request (request.Called what x k errand)) past under (λ y l. l) (λ P l. l) tt (after what x k errand)
     below _ (ForDrained x) past on under h = next (frame.Free (Draining x)) past under (λ y l. l) (λ P l. l) tt tt

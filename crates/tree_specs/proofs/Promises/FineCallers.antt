@@ -1,4 +1,8 @@
 -- The steps of callers: a question, a call, a reply, a return.
+use Rattle.tree_specs.specs.Calls.Passed.{IsUsable}
+use Rattle.tree_specs.specs.Tree.Pool.{enter}
+use Rattle.tree_specs.specs.Calls.Plans.Change.{Enter}
+use Rattle.tree_specs.proofs.Invariants.Waiters.{ForParting}
 use Rattle.tree_specs.specs.Machine.Profiles.{InRun, profile}
 use Rattle.tree_specs.specs.declared.reply.Reply.TheVariants as reply
 use Rattle.tree_specs.specs.declared.reply.Refusal.TheVariants as refusal
@@ -92,6 +96,7 @@ asking-fine scenes q b ws p whole known = (
     of-hook _ gs n (ForChild x c noted purpose) on seat claimed = absurd on
     of-hook _ gs n (ForTurn a) on seat claimed = absurd seat
     of-hook _ gs n (ForClear x) on seat claimed = absurd seat
+    of-hook _ gs n (ForParting x v) on seat claimed = absurd seat
     of-hook _ gs n (ForRoutine w x h errand) on seat claimed = fits-handler (told scenes) q on
     of-hook _ gs n (ForRequest a) on seat claimed = absurd seat
     of-hook _ gs n (ForServed x) on seat claimed = absurd seat
@@ -190,7 +195,7 @@ CausedBy p c (Frees x) = FreesBy x c × NotHeld c p
 CausedBy p c (Unlinks o x) = FreesBy x c × NotHeld c p
 CausedBy p c (Empties x) = FreesBy x c × NotHeld c p
 CausedBy p c (Asks q) = TurnsOrAsks c
-CausedBy p c Turns = TurnsOrAsks c
+CausedBy p c (Turns x) = TurnsOrAsks c
 CausedBy p c (Works change errand x) = TurnsOrAsks c
 
 -- what isn't said of a call is a reply that needs no cause
@@ -206,7 +211,7 @@ caused p (call.Accept fd) none = tt
 caused p (call.Read fd len) none = tt
 caused p (call.Write fd bytes) none = tt
 caused p call.Now none = tt
-caused p call.Turn none = tt
+caused p (call.Turn x) none = tt
 caused p (call.Cancel x) none = tt
 caused p (call.Done x) none = tt
 caused p (call.Oom x) none = tt
@@ -237,11 +242,11 @@ caused-planned p c d refers = each (refusals p c) refl (own-refused p (tests c))
     each (why ∷ rest) e own = λ scenes. (let h = own-call scenes p c why rest d refers e in (own-just-now (told scenes) p why own.0, h.0, h.1, h.2))
 
 -- a turn that is nested has its reply told, and any other is waited for
-turning-fine : (scenes : List Scene) (q : Ask) (c : Call) (b : Option CallStart) (ws : List NotedWork) (p : Pool) → Known scenes (with_note b (frame.Call (Doing q c))) ws p → TurnsOrAsks c
-    → FineBy scenes (frame.Call (Doing q c)) b p (turning_step q p) ws
-turning-fine scenes ask.Quiet c b ws p known turns =
-    waits-for scenes (frame.Call (Doing ask.Quiet c)) (frame.Call (Turning ask.Quiet)) b ws p p (frame.Turn Taking) (record { stays = λ y l. l; free = λ y h. h; run = λ P h. h }) (later-same p) tt tt turns tt known
-turning-fine scenes q c b ws p known turns =
+turning-fine : (scenes : List Scene) (q : Ask) (x : Obj) (c : Call) (b : Option CallStart) (ws : List NotedWork) (p : Pool) → IsUsable p x → Known scenes (with_note b (frame.Call (Doing q c))) ws p → TurnsOrAsks c
+    → FineBy scenes (frame.Call (Doing q c)) b p (turning_step q x p) ws
+turning-fine scenes ask.Quiet x c b ws p may known turns =
+    waits-for scenes (frame.Call (Doing ask.Quiet c)) (frame.Call (Turning ask.Quiet)) b ws p (enter p x) (frame.Turn Taking) (record { stays = λ y l. l; free = λ y h. h; run = λ P h. h }) (follows p (Enter x) may).later tt tt turns tt known
+turning-fine scenes q x c b ws p may known turns =
     let r : Reply = reply.No refusal.Nested in
     goes-on scenes (frame.Call (Doing q c)) (frame.Call (Telling (later q r) r)) b ws p p (record { stays = λ y l. l; free = λ y h. h; run = λ P h. later-hook P q r h }) (later-same p) tt
     (caused-turn scenes (Some (record { call = c; start = p })) r turns tt) known
@@ -271,7 +276,7 @@ module _ (scenes : List Scene) (q : Ask) (c : Call) (b : Option CallStart) (ws :
   planned-next (Empties x) may cause = frees-next x (frame.Free (Looping x Emptying)) refl cause.0 cause.1 tt tt
   planned-next (Asks outside) may cause =
       waits-for scenes (frame.Call (Doing q c)) (frame.Call (Turning q)) b ws p p (frame.Outside (Reaching outside)) (record { stays = λ y l. l; free = λ y h. h; run = λ P h. h }) (later-same p) tt tt cause may known
-  planned-next Turns may cause = turning-fine scenes q c b ws p known cause
+  planned-next (Turns x) may cause = turning-fine scenes q x c b ws p may known cause
   planned-next (Works change errand x) may cause = works errand may.3
     where
       begun-work : (g : RequestFrame) → Cause scenes (frame.Request g) None (with_note (Some begun) (frame.Call (Requesting q)) ∷ ws) (changed_by change p)

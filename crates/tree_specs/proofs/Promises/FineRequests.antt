@@ -1,4 +1,6 @@
 -- Each step of a request's work, and of a free that waits for it, tells what is fine.
+use Rattle.tree_specs.specs.Promises.Grounded.{InContext}
+use Rattle.tree_specs.specs.Words.Objects.{first_context}
 use Rattle.std.proofs.Common.{◌≡◌, ℕ, ◌≤◌, ◌<◌, List, [], ◌∷◌, ◌++◌, Option, Some, None, true, false, map, refl, ◌∙◌, arith}
 use Rattle.std.specs.Prelude.{not}
 use Rattle.std.specs.List.{list_any}
@@ -77,6 +79,12 @@ request-fires what.Cancel _ m h e = cc
 request-fires _ k m h e = absurd h
 
 -- these routines aren't triggers
+no-context : (w : What) (p : Pool) (x : Obj) → IsOfRequest w → InContext w p x
+no-context what.Callback p x h = tt
+no-context what.Cleanup p x h = tt
+no-context what.Cancel p x h = tt
+no-context _ p x h = absurd h
+
 no-turn : (w : What) (p : Pool) (x : Obj) (routine : ℕ) → IsOfRequest w → IsTurn w p x routine
 no-turn what.Callback p x routine h = tt
 no-turn what.Cleanup p x routine h = tt
@@ -219,7 +227,7 @@ module _ (scenes : List Scene) (b : Option CallStart) (ws : List NotedWork) (p :
       let r : Row = row.0 in
       let fires : may_fire_row w (row_of p.rows x) ≡ true = rw row.1 (request-fires w r.kind r.mark whole.noted.works.1 row.2) in
       let past = past-tells (told scenes) e f (map work_of ws) p (λ y. refl) (λ y. refl) (λ y. refl) (λ y k. refl) known.past in (
-        (fits-fired (told scenes) w x h.routine (unfreed (told scenes) f (map work_of ws) p x r known.past row.1), record { answered = tt; held = tt; caused = tt; started = (fires, no-turn w p x h.routine whole.noted.works.1) }),
+        (fits-fired (told scenes) w x h.routine (unfreed (told scenes) f (map work_of ws) p x r known.past row.1), record { answered = tt; held = tt; caused = tt; started = (fires, no-turn w p x h.routine whole.noted.works.1, no-context w p x whole.noted.works.1) }),
         known-told scenes (scene notes f b p e) (with_note None g) ws p
             (past-goes (told scenes ++ e ∷ []) f g (map work_of ws) (map work_of ws) p p past (later-same p) (λ y l. absurd l) tt past.all_account)
             (restacked f g ws (λ w h. h) (λ w h. h) known.stacked) tt,
@@ -257,7 +265,7 @@ module _ (scenes : List Scene) (b : Option CallStart) (ws : List NotedWork) (p :
   notifying-fine x errand whole known = each (note_of p.requests x)
     where
       q : Pool
-      q = schedule (renote p x not_deferring) x
+      q = schedule (renote p x not_deferring) x first_context
 
       back : (o : Option Handler) → FineBy scenes (frame.Request (request.Notifying x errand)) b p (callback_step x errand o p) ws
       back None = over (request.Notifying x errand) errand p (later-same p) known
@@ -295,7 +303,7 @@ module _ (scenes : List Scene) (b : Option CallStart) (ws : List NotedWork) (p :
           let row = request-row (row_of p.rows x) w.request in
           let starts : may_fire_row what.Trigger (row_of p.rows x) ≡ true = rw row.1 (trigger-fires row.0.kind row.0.mark row.2) in
           let past = past-tells (told scenes) i f (map work_of ws) p (λ y. refl) (λ y. refl) (λ y. refl) (λ y k. refl) known.past in (
-            (fits-fired (told scenes) what.Trigger x h.entry.trigger.routine (unfreed (told scenes) f (map work_of ws) p x row.0 known.past row.1), record { answered = tt; held = tt; caused = tt; started = (starts, record { queue = q; first = h; next = e; entry = entry-row x (row_of p.rows h.object) w.entry; request = refl; routine = refl }) }),
+            (fits-fired (told scenes) what.Trigger x h.entry.trigger.routine (unfreed (told scenes) f (map work_of ws) p x row.0 known.past row.1), record { answered = tt; held = tt; caused = tt; started = (starts, record { queue = q; first = h; next = e; entry = entry-row x (row_of p.rows h.object) w.entry; request = refl; routine = refl }, tt) }),
             known-told scenes (scene notes f b p i) (with_note None g) ws (trigger p h)
                 (past-goes (told scenes ++ i ∷ []) f g (map work_of ws) (map work_of ws) p (trigger p h) past (later-waiting p (trigger p h) refl refl refl) (λ y l. absurd l) tt past.all_account)
                 (restacked f g ws (λ w h. h) (λ w h. h) known.stacked) tt,

@@ -1,4 +1,5 @@
 -- What a refused call leaves.
+use Rattle.tree_specs.specs.Tree.Pool.{enter}
 use Rattle.std.proofs.Common.{◌≡◌, ℕ, suc, zero, nat_eq, List, [], ◌∷◌, ◌++◌, Option, Some, None, refl, sym, ◌∙◌, ap, subst, inl, inr, append-nil, true}
 use Rattle.step_machine.specs.Machine.{tell}
 use Rattle.step_machine.specs.Machine.Outcome.{Ended}
@@ -199,7 +200,7 @@ plan-leaves n (Empties x) why p q is left told done e =
     let e' : Ended reply.Ok w.1 [] w.4 ≡ Ended (reply.No why) q w.3 left = w.6 in
     cc
 plan-leaves n (Asks outside) why p q is left told done e = reaching-answers n outside (reply.No why) p q is left told e
-plan-leaves n Turns why p q is left told done e = never-refused (taking n) why p q is left told e
+plan-leaves n (Turns c) why p q is left told done e = never-refused (taking n) why (enter p c) q is left told e
 plan-leaves n (Works change errand x) why p q is left told done e = work-said n (all-lawful n) errand x why (changed_by change p) q is left told e
 
 refused-leaves : (c : Call) (why : Refusal) (p q : Pool) (is left : List Input) (told : List Scene) → Untouched p q is left told → LeftByRefused c why p q is left told

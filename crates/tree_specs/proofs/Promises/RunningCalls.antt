@@ -1,4 +1,5 @@
 -- A call is refused as running only where the object ran when the call began.
+use Rattle.tree_specs.specs.Tree.Pool.{enter}
 use Rattle.std.proofs.Common.{◌≡◌, ℕ, nat_eq, List, [], ◌∷◌, Option, Some, None, true, subst}
 use Rattle.tree_specs.specs.declared.request.Note.{Note}
 use Rattle.tree_specs.specs.declared.request.State.{State}
@@ -100,7 +101,7 @@ plan-runs n (Empties y) x p q is left told d own e =
     cc
 plan-runs n (Asks outside) x p q is left told d own e = absurd (reaching-answers n outside (reply.No (refusal.Running x)) p q is left told e)
 plan-runs n (Works change errand y) x p q is left told d own e = absurd (work-said n (all-lawful n) errand y (refusal.Running x) (changed_by change p) q is left told e)
-plan-runs n Turns x p q is left told d own e = absurd (never-refused (taking n) (refusal.Running x) p q is left told e)
+plan-runs n (Turns c) x p q is left told d own e = absurd (never-refused (taking n) (refusal.Running x) (enter p c) q is left told e)
 
 pub call-runs : (n : ℕ) (c : Call) (x : Obj) (p q : Pool) (is left : List Input) (told : List Scene) → Distinct p.rows
     → effect (free n) (unlink n) (children n) (reaching n) (turned AtRest (taking n)) (work_by (finishing n) (notifying n) (receiving n) (cancelling n)) (planned p c) p is ≡ Ended (reply.No (refusal.Running x)) q told left → is_running p x ≡ true

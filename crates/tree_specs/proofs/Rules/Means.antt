@@ -1,4 +1,9 @@
 -- The machine does what the rules' text says.
+use Rattle.tree_specs.specs.Calls.Refusals.{is_doomed}
+use Rattle.tree_specs.specs.Rules.Story.{closing}
+use Rattle.tree_specs.specs.Tree.Pool.{ring_here}
+use Rattle.tree_specs.specs.Tree.Pool.{times_here}
+use Rattle.tree_specs.specs.Tree.Pool.{soon_here}
 use Rattle.tree_specs.specs.declared.object.Owner.{Owner}
 use Rattle.tree_specs.specs.Tree.Targets.{newest_ref}
 use Rattle.std.proofs.Common.{◌≡◌, ℕ, suc, zero, nat_eq, List, [], ◌∷◌, Option, Some, None, Bool, true, false, nat_le, refl, sym, ap, inl, inr}
@@ -18,7 +23,7 @@ use Rattle.tree_specs.specs.declared.frame.Frame.{Frame}
 use Rattle.tree_specs.specs.declared.frame.Frame.TheVariants as frame
 use Rattle.tree_specs.specs.declared.frame.CallFrame.TheVariants.{Asking, Doing, Awaiting, Turning, Requesting, Returning}
 use Rattle.tree_specs.specs.declared.frame.TurnFrame.{TurnFrame}
-use Rattle.tree_specs.specs.declared.frame.TurnFrame.TheVariants.{Taking, Timing, Timed, Polling, Starting, Handled, Clearing, Serving, Closing}
+use Rattle.tree_specs.specs.declared.frame.TurnFrame.TheVariants.{Taking, Timing, Timed, Polling, Starting, Handled, Clearing, Serving, Parting, Closing}
 use Rattle.tree_specs.specs.declared.frame.FreeFrame.{FreeFrame}
 use Rattle.tree_specs.specs.declared.frame.FreeFrame.TheVariants.{Unlinking, Releasing, Beginning, Judged, Prepared, Dooming, Leaving, Looping, FreeingChild, AfterChild, Ending}
 use Rattle.tree_specs.specs.declared.frame.OutsideFrame.TheVariants.{Reaching}
@@ -45,6 +50,7 @@ use Rattle.tree_specs.specs.Events.Rotation.{Ready, closes_with, first_ready}
 use Rattle.tree_specs.specs.Events.Coming.{handler_for, goes_after, looks_again}
 use Rattle.tree_specs.specs.declared.occasion.Occasion.{Occasion}
 use Rattle.tree_specs.specs.declared.wants.Want.{Want}
+use Rattle.tree_specs.specs.declared.coming.Coming.{Coming}
 use Rattle.tree_specs.specs.declared.due.Due.{Due}
 use Rattle.tree_specs.specs.declared.handler.Handler.{Handler}
 use Rattle.tree_specs.specs.declared.moment.What.{What}
@@ -93,10 +99,10 @@ asking-turn n q b p is = by-given q n (frame.Call (Asking q)) b p (inr refl) eac
     each i js (Some (Returns v)) e = by_test (is_return v) (λ t. rw (e, t) (inr (simp laws))) (λ t. rw (e, t) (inr refl))
     each i js (Some _) e = rw e (inr refl)
 
-turning-turn : (n : ℕ) (q : Ask) (c : Call) (b : Option CallStart) (p : Pool) (is : List Input) → planned p c ≡ Turns
+turning-turn : (n : ℕ) (q : Ask) (c : Call) (b : Option CallStart) (p : Pool) (is : List Input) (x : Obj) → planned p c ≡ Turns x
     → Below (Turn n (frame.Call (Doing q c)) b (plan_step q (planned p c) p) p is) (mean (suc n) (frame.Call (Doing q c)) b p is)
-turning-turn n Quiet c b p is e = rw e (inr (simp laws))
-turning-turn n _ c b p is e = rw e (inr refl)
+turning-turn n Quiet c b p is x e = rw e (inr (simp laws))
+turning-turn n _ c b p is x e = rw e (inr refl)
 
 doing-turn : (n : ℕ) (q : Ask) (c : Call) (b : Option CallStart) (p : Pool) (is : List Input)
     → Below (Turn n (frame.Call (Doing q c)) b (plan_step q (planned p c) p) p is) (mean (suc n) (frame.Call (Doing q c)) b p is)
@@ -113,7 +119,7 @@ doing-turn n q c b p is = each (planned p c) refl
     each (Unlinks o x) e = rw e (inr (simp laws))
     each (Empties x) e = rw e (inr (simp laws))
     each (Asks outside) e = rw e (inr (simp laws))
-    each Turns e = turning-turn n q c b p is e
+    each (Turns x) e = turning-turn n q c b p is x e
     each (Works change errand x) e = works change errand x e
 
 -- by what was found, if anything
@@ -213,28 +219,28 @@ tried-turn n x c noted purpose a b p is = each purpose a
 -- ---- turns of the event loop
 
 taking-turn : (n : ℕ) (b : Option CallStart) (p : Pool) (is : List Input) → Below (Turn n (frame.Turn Taking) b (turn_step Taking p) p is) (ends_as answer.Turned (taking (suc n)) p is)
-taking-turn n b p is = each (first p.soon) refl
+taking-turn n b p is = each (first (soon_here p)) refl
   where
-    due : first p.soon ≡ None → (o : Option Due) → first p.times ≡ o → Below (Turn n (frame.Turn Taking) b (turn_step Taking p) p is) (ends_as answer.Turned (taking (suc n)) p is)
+    due : first (soon_here p) ≡ None → (o : Option Due) → first (times_here p) ≡ o → Below (Turn n (frame.Turn Taking) b (turn_step Taking p) p is) (ends_as answer.Turned (taking (suc n)) p is)
     due e None k = rw (e, k) (inr refl)
     due e (Some d) k = by_test (nat_eq d.time 0)
         (λ t. by_test (is_noted p.requests d.object) (λ u. rw (e, k, t, u) (inr (simp laws))) (λ u. rw (e, k, t, u) (inr refl)))
         (λ t. rw (e, k, t) (inr refl))
 
-    each : (o : Option Obj) → first p.soon ≡ o → Below (Turn n (frame.Turn Taking) b (turn_step Taking p) p is) (ends_as answer.Turned (taking (suc n)) p is)
-    each None e = due e (first p.times) refl
-    each (Some x) e = by_test (is_noted p.requests x)
+    each : (o : Option Coming) → first (soon_here p) ≡ o → Below (Turn n (frame.Turn Taking) b (turn_step Taking p) p is) (ends_as answer.Turned (taking (suc n)) p is)
+    each None e = due e (first (times_here p)) refl
+    each (Some y) e = by_test (is_noted p.requests y.object)
         (λ u. rw (e, u) (inr (simp laws)))
-        (λ u. by_test (has_queue p.queues x) (λ v. rw (e, u, v) (inr (simp laws))) (λ v. rw (e, u, v) (inr refl)))
+        (λ u. by_test (has_queue p.queues y.object) (λ v. rw (e, u, v) (inr (simp laws))) (λ v. rw (e, u, v) (inr refl)))
 
 timed-turn : (n : ℕ) (again : Bool) (now : ℕ) (b : Option CallStart) (p : Pool) (is : List Input)
     → Below (Turn n (frame.Turn (Timed again now)) b (turn_step (Timed again now) p) p is) (ends_as answer.Turned (timed (suc n) again now) p is)
-timed-turn n again now b p is = each again (first p.times) refl
+timed-turn n again now b p is = each again (first (times_here p)) refl
   where
-    has_come : (again : Bool) (d : Due) → first p.times ≡ Some d → nat_le d.time now ≡ true → Below (Turn n (frame.Turn (Timed again now)) b (turn_step (Timed again now) p) p is) (ends_as answer.Turned (timed (suc n) again now) p is)
+    has_come : (again : Bool) (d : Due) → first (times_here p) ≡ Some d → nat_le d.time now ≡ true → Below (Turn n (frame.Turn (Timed again now)) b (turn_step (Timed again now) p) p is) (ends_as answer.Turned (timed (suc n) again now) p is)
     has_come again d e t = by_test (is_noted p.requests d.object) (λ u. rw (e, t, u) (inr (simp laws))) (λ u. rw (e, t, u) (inr refl))
 
-    each : (again : Bool) (o : Option Due) → first p.times ≡ o → Below (Turn n (frame.Turn (Timed again now)) b (turn_step (Timed again now) p) p is) (ends_as answer.Turned (timed (suc n) again now) p is)
+    each : (again : Bool) (o : Option Due) → first (times_here p) ≡ o → Below (Turn n (frame.Turn (Timed again now)) b (turn_step (Timed again now) p) p is) (ends_as answer.Turned (timed (suc n) again now) p is)
     each again None e = rw e (inr refl)
     each true (Some d) e = by_test (nat_le d.time now) (λ t. has_come true d e t) (λ t. rw (e, t) (inr refl))
     each false (Some d) e = by_test (nat_le d.time now) (λ t. has_come false d e t) (λ t. rw (e, t) (inr refl))
@@ -249,14 +255,14 @@ timing-turn n again b p is = by-given Clock n (frame.Turn (Timing again)) b p (i
 polling-turn : (n limit : ℕ) (b : Option CallStart) (p : Pool) (is : List Input) → AsText n (frame.Turn (Polling limit)) b p is
 polling-turn n limit b p is = by-given (Wait limit) n (frame.Turn (Polling limit)) b p (inr refl) each is
   where
-    ready : (i : Input) (js : List Input) (wants : List Want) → given_to (Wait limit) i ≡ Some (IsReady wants) → is_wants wants ≡ true → looks_again p wants ≡ false → (o : Option Ready) → first_ready p.ring wants ≡ o
+    ready : (i : Input) (js : List Input) (wants : List Want) → given_to (Wait limit) i ≡ Some (IsReady wants) → is_wants wants ≡ true → looks_again p wants ≡ false → (o : Option Ready) → first_ready (ring_here p) wants ≡ o
         → AsText n (frame.Turn (Polling limit)) b p (i ∷ js)
     ready i js wants e t l None k = rw (e, t, l, k) (inr (simp laws))
     ready i js wants e t l (Some r) k = rw (e, t, l, k) (inr (simp laws))
 
     each : (i : Input) (js : List Input) (g : Option Given) → given_to (Wait limit) i ≡ g → AsText n (frame.Turn (Polling limit)) b p (i ∷ js)
     each i js (Some (IsReady wants)) e = by_test (is_wants wants)
-        (λ t. by_test (looks_again p wants) (λ l. rw (e, t, l) (inr (simp laws))) (λ l. ready i js wants e t l (first_ready p.ring wants) refl))
+        (λ t. by_test (looks_again p wants) (λ l. rw (e, t, l) (inr (simp laws))) (λ l. ready i js wants e t l (first_ready (ring_here p) wants) refl))
         (λ t. rw (e, t) (inr refl))
     each i js _ e = rw e (inr refl)
 
@@ -268,6 +274,14 @@ handled-turn : (n : ℕ) (what : What) (x : Obj) (b : Option CallStart) (p : Poo
     → Below (Turn n (frame.Turn (Handled what x)) b (turn_step (Handled what x) p) p is) (ends_as answer.Turned (handled (suc n) what x) p is)
 handled-turn n what x b p is = by_test (goes_after p what x) (λ t. rw t (inr (simp laws))) (λ t. rw t (inr refl))
 
+closing-turn : (n v : ℕ) (b : Option CallStart) (p : Pool) (is : List Input)
+    → Below (Turn n (frame.Turn (Closing v)) b (turn_step (Closing v) p) p is) (ends_as answer.Turned (closing (suc n) v) p is)
+closing-turn n v b p is = each p.turning refl
+  where
+    each : (o : Option Obj) → p.turning ≡ o → Below (Turn n (frame.Turn (Closing v)) b (turn_step (Closing v) p) p is) (ends_as answer.Turned (closing (suc n) v) p is)
+    each None e = rw e (inr refl)
+    each (Some c) e = by_test (is_doomed p c) (λ t. rw (e, t) (inr (simp laws))) (λ t. rw (e, t) (inr refl))
+
 loop-turn : (n : ℕ) (f : TurnFrame) (b : Option CallStart) (p : Pool) (is : List Input) → Below (Turn n (frame.Turn f) b (turn_step f p) p is) (mean (suc n) (frame.Turn f) b p is)
 loop-turn n Taking b p is = taking-turn n b p is
 loop-turn n (Timing again) b p is = timing-turn n again b p is
@@ -277,7 +291,8 @@ loop-turn n (Starting what x occasion) b p is = starting-turn n what x occasion 
 loop-turn n (Handled what x) b p is = handled-turn n what x b p is
 loop-turn n (Clearing x) b p is = inr refl
 loop-turn n (Serving x) b p is = inr refl
-loop-turn n (Closing v) b p is = inr refl
+loop-turn n (Parting c v) b p is = inr refl
+loop-turn n (Closing v) b p is = closing-turn n v b p is
 loop-turn n _ b p is = inr (simp laws)
 
 -- ---- a question to the outside

@@ -1,4 +1,5 @@
 -- What is so of the works of requests: beside what is so of every work, none of them is refused.
+use Rattle.tree_specs.specs.Words.Objects.{first_context}
 use Rattle.std.proofs.Common.{◌≡◌, ℕ, suc, nat_eq, List, Option, Some, None, false, refl, subst}
 use Rattle.step_machine.specs.Machine.{tell, followed}
 use Rattle.step_machine.specs.Machine.Outcome.{Ended}
@@ -93,7 +94,7 @@ notifying-lawful n ih x errand p last = each (note_of p.requests x) refl
     each : (o : Option Note) → note_of p.requests x ≡ o → Lawful last Said (notifying (suc n) x errand p)
     each None e = same-lawful last Said (notifying (suc n) x errand p) (over n (reply_to errand) p) (λ js. rw e refl) (over-it p)
     each (Some note) e = by_test note.deferred
-        (λ t. same-lawful last Said (notifying (suc n) x errand p) (over n (reply_to errand) (schedule (renote p x not_deferring) x)) (λ js. rw (e, t, e) refl) (over-it (schedule (renote p x not_deferring) x)))
+        (λ t. same-lawful last Said (notifying (suc n) x errand p) (over n (reply_to errand) (schedule (renote p x not_deferring) x first_context)) (λ js. rw (e, t, e) refl) (over-it (schedule (renote p x not_deferring) x first_context)))
         (λ t. back note note.callback refl t e)
 
 pub calling-lawful : (n : ℕ) → AllLawful n → (w : What) (x : Obj) (handler : Handler) (errand : Errand) (p : Pool) (last : Last) → Lawful last Said (calling (suc n) w x handler errand p)

@@ -1,4 +1,9 @@
 -- The laws of the story still to come.
+use Rattle.tree_specs.specs.declared.object.Obj.{Obj}
+use Rattle.tree_specs.specs.declared.frame.TurnFrame.TheVariants.{Closing}
+use Rattle.tree_specs.specs.Machine.Table.{closing_step, parting_step}
+use Rattle.tree_specs.specs.Calls.Refusals.{is_doomed}
+use Rattle.tree_specs.specs.Words.Objects.{first_context}
 use Rattle.std.proofs.Common.{◌≡◌, ℕ, suc, zero, ◌+◌, ◌*◌, ◌<◌, ◌≤◌, List, [], ◌∷◌, length, Bool, true, false, Option, Some, None, refl, sym, ◌∙◌, ap, subst, arith}
 use Rattle.step_machine.specs.Machine.{Move, Outcome, State, silent, tell, given, asks, leads, rest, walk, items as told_by}
 use Rattle.step_machine.specs.Machine.{Move as Do}
@@ -222,9 +227,9 @@ GoesOn (Do.Go f p) = IsTelling f
 GoesOn (Do.Call g f p) = Unit {0}
 GoesOn _ = ⊥
 
-turning-goes_on : (q : Ask) (p : Pool) → GoesOn (turning_step q p)
-turning-goes_on Quiet p = tt
-turning-goes_on _ p = tt
+turning-goes_on : (q : Ask) (x : Obj) (p : Pool) → GoesOn (turning_step q x p)
+turning-goes_on Quiet x p = tt
+turning-goes_on _ x p = tt
 
 pub plan-goes_on : (q : Ask) (plan : Plan) (p : Pool) → GoesOn (plan_step q plan p)
 plan-goes_on q (Does change None r) p = tt
@@ -233,7 +238,7 @@ plan-goes_on q (Frees x) p = tt
 plan-goes_on q (Unlinks o x) p = tt
 plan-goes_on q (Empties x) p = tt
 plan-goes_on q (AsksOutside outside) p = tt
-plan-goes_on q Turns p = turning-goes_on q p
+plan-goes_on q (Turns x) p = turning-goes_on q x p
 plan-goes_on q (Works change errand x) p = tt
 
 pub call-goes_on : (check : Check) (q : Ask) (c : Call) (p : Pool) → GoesOn (call_step check q c p)
@@ -265,15 +270,15 @@ turn-asks (Polling limit) p q i g e = (Wait limit, cc)
 turn-asks Taking p q i g e = absurd (passes (turn_step Taking p) (look-passes Taking p tt) e)
   where
     passes : (m : Step) → Passes p m → m ≡ Do.Wait i g q → ⊥
-    passes _ (Pass t r rows next notes queues times plain) e = cc
-    passes _ (Trigger x r rows next notes queues times queue) e = cc
-    passes _ (Serve errand x r rows next notes queues times served noted) e = cc
+    passes _ (Pass t r rows next notes queues turning times plain) e = cc
+    passes _ (Trigger x r rows next notes queues turning times queue) e = cc
+    passes _ (Serve errand x r rows next notes queues turning times served noted) e = cc
 turn-asks (Timed again now) p q i g e = absurd (passes (turn_step (Timed again now) p) (look-passes (Timed again now) p tt) e)
   where
     passes : (m : Step) → Passes p m → m ≡ Do.Wait i g q → ⊥
-    passes _ (Pass t r rows next notes queues times plain) e = cc
-    passes _ (Trigger x r rows next notes queues times queue) e = cc
-    passes _ (Serve errand x r rows next notes queues times served noted) e = cc
+    passes _ (Pass t r rows next notes queues turning times plain) e = cc
+    passes _ (Trigger x r rows next notes queues turning times queue) e = cc
+    passes _ (Serve errand x r rows next notes queues turning times served noted) e = cc
 turn-asks (Starting what x occasion) p q i g e = absurd (each (handler_for p what x) e)
   where
     each : (o : Option Handler) → starting_step what x occasion o p ≡ Do.Wait i g q → ⊥
@@ -284,6 +289,15 @@ turn-asks (Handled what x) p q i g e = absurd (each (goes_after p what x) e)
     each : (b : Bool) → handled_step x b p ≡ Do.Wait i g q → ⊥
     each true e = cc
     each false e = cc
+turn-asks (Closing v) p q i g e = absurd (each p.turning e)
+  where
+    each : (o : Option Obj) → closing_step v o p ≡ Do.Wait i g q → ⊥
+    each None e = cc
+    each (Some c) e = parts (is_doomed p c) e
+      where
+        parts : (b : Bool) → parting_step c v b p ≡ Do.Wait i g q → ⊥
+        parts true e = cc
+        parts false e = cc
 turn-asks _ p q i g e = cc
 
 -- a question to the outside is asked
@@ -328,7 +342,7 @@ work-asks (request.Notifying x errand) p q i g e = each (note_of p.requests x) e
     each : (o : Option Note) → notifying_step x errand o p ≡ Do.Wait i g q → ⊥
     each None e = cc
     each (Some n) e = by_test n.deferred
-        (λ t. let e' : over_step errand (schedule (renote p x not_deferring) x) ≡ Do.Wait i g q = rw t at e in cc)
+        (λ t. let e' : over_step errand (schedule (renote p x not_deferring) x first_context) ≡ Do.Wait i g q = rw t at e in cc)
         (λ t. let e' : callback_step x errand n.callback p ≡ Do.Wait i g q = rw t at e in back n.callback e')
 work-asks (request.Vacating x) p q i g e = each (head_of p.queues x) e
   where

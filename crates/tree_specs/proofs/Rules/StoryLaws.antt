@@ -46,7 +46,7 @@ none-await first = record { events = λ w x h. absurd (none w x h); handlers = �
 -- a host at its beginning
 pub begin-whole : (first : ℕ) → 1 ≤ first → IsConsistent (begin first)
 begin-whole first h = record {
-  sound = record { started = omega arith; valid = λ x. tt; forest = forest-none; refers = record { target = λ r t e. cc; quiet = λ r t e. cc }; open_frees = λ x. refl; waiting = tt; rests = tt };
+  sound = record { started = omega arith; valid = λ x. tt; forest = forest-none; refers = record { target = λ r t e. cc; quiet = λ r t e. cc }; open_frees = λ x. refl; waiting = tt; turned = tt; rests = tt };
   seated = tt;
   light = omega arith;
   noted = record { pool = record { notes = λ x. refl; timed = λ x t. cc; ready = λ x t. cc }; works = tt };

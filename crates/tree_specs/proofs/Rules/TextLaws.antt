@@ -1,4 +1,6 @@
 -- The rules' text over every pool and every list of inputs: what an acceptance follows, and which inputs a free takes.
+use Rattle.tree_specs.proofs.Rules.TurnLaws.{closing-lawful}
+use Rattle.tree_specs.specs.Tree.Pool.{enter}
 use Rattle.tree_specs.specs.declared.object.Owner.{Owner}
 use Rattle.tree_specs.specs.Tree.Targets.{newest_ref}
 use Rattle.std.proofs.Common.{◌≡◌, ℕ, suc, zero, nat_eq, List, [], Option, Some, None, true, false, refl, sym, ◌∙◌, ap, subst, inl, inr, unwrap_or}
@@ -186,9 +188,9 @@ asked-lawful n ih q p last = asks-lawful last (Returned q) q (heard q (acting n 
 numbered-lawful : (w : Work ℕ) (p : Pool) (last : Last) → Lawful last Any (w p) → Lawful last Any (numbered w p)
 numbered-lawful w p last h = followed-lawful last Any Any (w p) _ h (λ v q l k. ended-lawful l Any _ q tt)
 
-turned-lawful : (q : Ask) (w : Work ℕ) (p : Pool) (last : Last) → Lawful last Any (w p) → Lawful last Any (turned q w p)
-turned-lawful ask.Quiet w p last h = numbered-lawful w p last h
-turned-lawful _ w p last h = ended-lawful last Any _ p tt
+turned-lawful : (q : Ask) (w : Work ℕ) (c : Obj) (p : Pool) (last : Last) → Lawful last Any (w (enter p c)) → Lawful last Any (turned q w c p)
+turned-lawful ask.Quiet w c p last h = numbered-lawful w (enter p c) last h
+turned-lawful _ w c p last h = ended-lawful last Any _ p tt
 
 plan-lawful : (n : ℕ) → AllLawful n → (q : Ask) (plan : Plan) (p : Pool) (last : Last) → Lawful last Any (effect (free n) (unlink n) (children n) (reaching n) (turned q (taking n)) (work_by (finishing n) (notifying n) (receiving n) (cancelling n)) plan p)
 plan-lawful n ih q (Does change notice r) p last = ended-lawful last Any r (changed_by change p) tt
@@ -196,7 +198,7 @@ plan-lawful n ih q (Frees x) p last = followed-lawful last Any Any (free n x p) 
 plan-lawful n ih q (Unlinks o x) p last = followed-lawful last Any Any (unlink n o x p) _ (ih.frees.unlink o x p last) (λ a q l k. ended-lawful l Any _ q tt)
 plan-lawful n ih q (Empties x) p last = followed-lawful last Any Any (children n x p) _ (ih.frees.children x p last) (λ a q l k. ended-lawful l Any _ q tt)
 plan-lawful n ih q (Asks outside) p last = ih.outside.reaching outside p last
-plan-lawful n ih q Turns p last = turned-lawful q (taking n) p last (ih.turns.taking p last)
+plan-lawful n ih q (Turns c) p last = turned-lawful q (taking n) c p last (ih.turns.taking (enter p c) last)
 plan-lawful n ih q (Works change errand x) p last = weaker last Said Any (work_by (finishing n) (notifying n) (receiving n) (cancelling n) errand x (changed_by change p)) (λ r l s. tt) (work-lawful n ih errand x (changed_by change p) last)
 
 acting-lawful : (n : ℕ) → AllLawful n → (q : Ask) (c : Call) (p : Pool) (last : Last) → Lawful last (Returned q) (acting (suc n) q c p)
@@ -319,7 +321,7 @@ all-lawful (suc n) =
         firing = firing-lawful n ih;
         handling = handling-lawful n ih;
         handled = handled-lawful n ih;
-        closing = λ v p last. ended-lawful last Any v p tt;
+        closing = λ v p last. closing-lawful n ih v p last;
       };
       outside = record {
         reaching = reaching-lawful n ih;

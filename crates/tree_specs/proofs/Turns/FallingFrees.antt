@@ -1,4 +1,6 @@
 -- Each step of a free lowers the measure.
+use Rattle.tree_specs.proofs.Invariants.Waiters.{ForParting}
+use Rattle.tree_specs.specs.declared.frame.TurnFrame.TheVariants.{Parting}
 use Rattle.std.specs.Prelude.{unwrap_or}
 use Rattle.tree_specs.specs.Machine.Profiles.{InRun, InLoop, tried_cost}
 use Rattle.tree_specs.specs.declared.frame.FreeFrame.{FreeFrame}
@@ -103,6 +105,7 @@ looping-lower R x purpose fs p k s most = each (first_kid p.rows (Of x)) refl
     called : (g : Frame) (gs : List Frame) → Stands Emptying (footing (g ∷ gs)) → top_cost R (resume g (Freed Ok)) gs p.rows < waiting_cost g + (4 * count p.rows (Of x) + 7)
     called (frame.Call (Awaiting q y)) gs c = omega arith
     called (frame.Turn (Clearing y)) gs c = omega arith
+    called (frame.Turn (Parting y v)) gs c = omega arith
     called (frame.Request (request.Releasing y)) gs c = omega arith
     called _ gs c = absurd c
 
@@ -189,6 +192,7 @@ at_once-lower R a x f (g ∷ gs) p k h t w other most room = below g (waiter g g
         → Lowers R (cost R (frame.Free f) (g ∷ gs) p k) (Do.Done (Freed a) p) (g ∷ gs) k
     below _ (ForFree q y) t other most = (omega arith, omega (arith, most))
     below _ (ForClear y) t other most = (omega arith, omega (arith, most))
+    below _ (ForParting y v) t other most = (omega arith, omega (arith, most))
     below _ (ForRelease y) t other most = (omega arith, omega (arith, most))
     below _ (ForEntry q y) t other most = absurd other
     below _ (ForChild y c noted purpose) t other most = elim h [

@@ -1,4 +1,15 @@
 -- The stated number of turns is above the measure at every moment, and each work stands where it may.
+use Rattle.std.proofs.Common.{true}
+use Rattle.tree_specs.proofs.Invariants.Changes.{turning-row}
+use Rattle.tree_specs.specs.Invariants.Sound.{is_at_turn_mark, IsTurning}
+use Rattle.tree_specs.specs.Calls.Refusals.{is_doomed}
+use Rattle.tree_specs.specs.Machine.Table.{closing_step}
+use Rattle.tree_specs.specs.Tree.Pool.{exit}
+use Rattle.tree_specs.specs.declared.frame.TurnFrame.TheVariants.{Parting}
+use Rattle.tree_specs.specs.Calls.Passed.{IsUsable}
+use Rattle.tree_specs.specs.declared.kind.Kind.{Kind}
+use Rattle.tree_specs.specs.Machine.Profiles.{InHandler}
+use Rattle.tree_specs.specs.Calls.Plans.Change.{Enter}
 use Rattle.tree_specs.specs.Machine.Profiles.{InRun, InHandler, InLoop}
 use Rattle.tree_specs.specs.declared.event.Event.{Event}
 use Rattle.tree_specs.specs.declared.event.Event.TheVariants.{Unreferenced}
@@ -20,7 +31,7 @@ use Rattle.tree_specs.specs.declared.frame.RequestFrame.TheVariants as request
 use Rattle.tree_specs.specs.Events.Requests.{note_of, is_unreceived, cleanup_in, cancel_in}
 use Rattle.tree_specs.specs.Calls.Refusals.{is_request, is_queue}
 use Rattle.tree_specs.specs.Calls.Plans.Plan.{Does, Frees, Unlinks, Empties, Asks, Turns, Works}
-use Rattle.tree_specs.specs.Tree.Targets.{newest_ref}
+use Rattle.tree_specs.specs.Tree.Targets.{newest_ref, is_context}
 use Rattle.std.proofs.Common.{◌≡◌, ℕ, suc, zero, ◌+◌, ◌≤◌, List, [], Option, Some, None, nat_eq, refl, sym, ◌∙◌, ap, subst, arith, false}
 use Rattle.step_machine.specs.Machine.{Move as Do}
 use Rattle.tree_specs.specs.declared.object.Obj.{Obj}
@@ -77,9 +88,9 @@ asking-placed q fs p (suc k) s l = λ i g e. leads g (heard-leads q i g e)
     leads _ (HeardCall c) = (reseat (frame.Call (Asking q)) (frame.Call (Doing q c)) fs (λ z. z) (λ z. z) (λ z. z) (λ z. z) (λ z. z) s, l)
     leads _ (HeardReturn v of) = (reseat (frame.Call (Asking q)) (frame.Call (Returning v)) fs (λ z. not-both q z of) (λ z. tt) (λ z. z) (λ z. z) (λ z. z) s, l)
 
-turning-placed : (q : Ask) (c : Call) (fs : List Frame) (p : Pool) (k : ℕ) → IsStacked (frame.Call (Doing q c)) fs → IsPaidFor (frame.Call (Doing q c)) fs p → Placed (turning_step q p) fs k
-turning-placed asks.Quiet c fs p k s l = ((tt, reseat (frame.Call (Doing asks.Quiet c)) (frame.Call (Turning asks.Quiet)) fs (λ z. z) (λ z. z) (λ z. z) (λ z. z) (λ z. z) s), omega (arith, l))
-turning-placed q c fs p k s l = (reseat-told q c (reply.No refusal.Nested) fs s, l)
+turning-placed : (q : Ask) (x : Obj) (c : Call) (fs : List Frame) (p : Pool) (k : ℕ) → IsUsable p x → IsStacked (frame.Call (Doing q c)) fs → IsPaidFor (frame.Call (Doing q c)) fs p → Placed (turning_step q x p) fs k
+turning-placed asks.Quiet x c fs p k may s l = ((tt, reseat (frame.Call (Doing asks.Quiet c)) (frame.Call (Turning asks.Quiet)) fs (λ z. z) (λ z. z) (λ z. z) (λ z. z) (λ z. z) s), omega (arith, l, (follows p (Enter x) may).deposit))
+turning-placed q x c fs p k may s l = (reseat-told q c (reply.No refusal.Nested) fs s, l)
 
 -- the first step of a plan that may be carried out
 planned-placed : (q : Ask) (c : Call) (fs : List Frame) (p : Pool) (k : ℕ) → IsStacked (frame.Call (Doing q c)) fs → IsPaidFor (frame.Call (Doing q c)) fs p → (plan : Plan) → May p plan → Placed (plan_step q plan p) fs k
@@ -107,7 +118,7 @@ planned-placed q c fs p k s l plan may = each plan may
     each (Unlinks o x) may = ((tt, awaits x), omega (arith, l))
     each (Empties x) may = ((tt, awaits x), omega (arith, l))
     each (Asks outside) may = ((tt, reseat (frame.Call (Doing q c)) (frame.Call (Turning q)) fs (λ z. z) (λ z. z) (λ z. z) (λ z. z) (λ z. z) s), omega (arith, l))
-    each Turns may = turning-placed q c fs p k s l
+    each (Turns x) may = turning-placed q x c fs p k may s l
     each (Works change errand x) may = works change errand x may.0 may.3
 
 -- what is told of it makes no difference
@@ -122,7 +133,7 @@ dropped-placed f g fs p k r t e refers is less s l = by-row (row_of p.rows r) re
   where
     by-row : (q : Option Row) → row_of p.rows r ≡ q → IsQuietRow q → Placed (Do.Emit e (frame.Free g) (remove p r)) fs k
     by-row None q quiet = absurd quiet
-    by-row (Some row) q quiet = let w = total-without deposit p.rows r row q in (reseat-free f g fs s, omega (arith, w, l, less, ap mark_deposit quiet))
+    by-row (Some row) q quiet = let w = total-without deposit p.rows r row q in (reseat-free f g fs s, omega (arith, w, l, less, ap (mark_deposit row.kind) quiet))
 
 beginning-placed : (x : Obj) (fs : List Frame) (p : Pool) (k : ℕ) → Sound (frame.Free (Beginning x)) fs p → IsStacked (frame.Free (Beginning x)) fs → IsPaidFor (frame.Free (Beginning x)) fs p
     → Placed (step (frame.Free (Beginning x)) p) fs k
@@ -135,18 +146,18 @@ beginning-placed x fs p k sound s l = newest (newest_ref p.rows x) refl
     quiet r e m =
         let u = total-changed deposit (marked_row Asked) p.rows x r e in
         by_test (is_request r.kind)
-        (λ v. rw v (reseat-free (Beginning x) (Preparing x) fs s, omega (arith, u, l, ap mark_deposit m)))
+        (λ v. rw v (reseat-free (Beginning x) (Preparing x) fs s, omega (arith, u, l, ap (mark_deposit r.kind) m)))
         (λ v. by_test (is_queue r.kind)
-        (λ w. rw (v, w) (reseat-free (Beginning x) (Draining x) fs s, omega (arith, u, l, ap mark_deposit m)))
+        (λ w. rw (v, w) (reseat-free (Beginning x) (Draining x) fs s, omega (arith, u, l, ap (mark_deposit r.kind) m)))
         (λ w. by_test (nat_eq r.hook 0)
         (λ t. rw (v, w, t) (reseat-free (Beginning x) (Leaving x 0) fs s, l))
-        (λ t. rw (v, w, t) (reseat-free (Beginning x) (Hooked x r.hook) fs s, omega (arith, u, l, ap mark_deposit m)))))
+        (λ t. rw (v, w, t) (reseat-free (Beginning x) (Hooked x r.hook) fs s, omega (arith, u, l, ap (mark_deposit r.kind) m)))))
 
     marks : (r : Row) (m : Mark) → r.mark ≡ m → row_of p.rows x ≡ Some r → Placed (lifted p.ring (begin_step x (row_of p.rows x) p)) fs k
     marks r Quiet m e = rw (e, m) (quiet r e m)
     marks r Asked m e = rw (e, m) (done Running)
     marks r Busy m e =
-        let u : total deposit (changed (marked_row Doomed) p.rows x) ≡ total deposit p.rows = total-kept deposit (marked_row Doomed) p.rows x r e (sym (ap mark_deposit m)) in
+        let u : total deposit (changed (marked_row Doomed) p.rows x) ≡ total deposit p.rows = total-kept deposit (marked_row Doomed) p.rows x r e (sym (ap (mark_deposit r.kind) m)) in
         rw (e, m) (announced-placed (closed_event (closes_with p.ring x)) (Dooming x) (doom p x) fs k (reseat-free (Beginning x) (Dooming x) fs s, omega (arith, u, l)))
     marks r Doomed m e = rw (e, m) (done Running)
     marks r (Dying former) m e = rw (e, m) (done Ok)
@@ -185,9 +196,11 @@ releasing-placed x fs p k sound s l = each (newest_ref p.rows x) refl
         (λ t. rw t (dropped-placed (Releasing x) (Releasing x) fs p k r x (Told (Unreferenced r x)) sound.refers is (omega arith) s l))
         (λ t. rw t (dropped-placed (Releasing x) (Giving x (unwrap_or (owner_of p.rows r) Root)) fs p k r x (Told (Unreferenced r x)) sound.refers is (omega arith) s l)))
 
-pub mark_deposit-most : (m : Mark) → mark_deposit m ≤ 3
-mark_deposit-most Quiet = omega arith
-mark_deposit-most _ = omega arith
+pub mark_deposit-most : (k : Kind) (m : Mark) → mark_deposit k m ≤ 3
+mark_deposit-most k Quiet = omega arith
+mark_deposit-most k Asked = omega arith
+mark_deposit-most k (Dying former) = omega arith
+mark_deposit-most k _ = by_test (is_context k) (λ t. rw t (omega arith)) (λ t. rw t (omega arith))
 
 judged-placed : (x : Obj) (h v : ℕ) (fs : List Frame) (p : Pool) (k : ℕ) → Sound (frame.Free (Judged x h v)) fs p → IsStacked (frame.Free (Judged x h v)) fs → IsPaidFor (frame.Free (Judged x h v)) fs p
     → Placed (step (frame.Free (Judged x h v)) p) fs k
@@ -200,23 +213,25 @@ judged-placed x h v fs p k s seats l =
         (λ t. let u = total-kept deposit (hooked_row 0) p.rows x r e refl in
         rw t (reseat-free (Judged x h v) (Leaving x h) fs seats, by_test (nat_eq h 0) (λ y. rw y (omega (arith, u, l))) (λ y. rw y (omega (arith, u, l)))))
         (λ t. let u = total-changed deposit (marked_row Quiet) p.rows x r e in
-        rw t (reseat-free (Judged x h v) (Ending (Refused v)) fs seats, omega (arith, u, l, mark_deposit-most r.mark)))
+        rw t (reseat-free (Judged x h v) (Ending (Refused v)) fs seats, omega (arith, u, l, mark_deposit-most r.kind r.mark)))
 
 leaving-placed : (x : Obj) (h : ℕ) (fs : List Frame) (p : Pool) (k : ℕ) → Sound (frame.Free (Leaving x h)) fs p → IsStacked (frame.Free (Leaving x h)) fs → IsPaidFor (frame.Free (Leaving x h)) fs p
     → Placed (step (frame.Free (Leaving x h)) p) fs k
 leaving-placed x h fs p k s seats l =
     announced-placed (closed_event (closes_with p.ring x)) (Looping x (Removal h)) (detach p x) fs k (reseat-free (Leaving x h) (Looping x (Removal h)) fs seats, lighter s.rests.0 s.rests.1 s.rests.3)
   where
-    calm : (m : Mark) → [] ≡ phase_of m → mark_deposit m ≡ 0
-    calm Quiet e = refl
-    calm _ e = cc
+    calm : (k : Kind) (m : Mark) → [] ≡ phase_of k m → mark_deposit k m ≡ 0
+    calm k Quiet e = refl
+    calm k Asked e = cc
+    calm k (Dying former) e = cc
+    calm k _ e = by_test (is_context k) (λ t. rw t refl) (λ t. cc)
 
     lighter : (r : Row) → row_of p.rows x ≡ Some r → claims x fs ≡ [] → IsPaidFor (frame.Free (Looping x (Removal h))) fs (record p { rows = changed left_row p.rows x })
     lighter r e none = let w = total-changed deposit left_row p.rows x r e in by_test (nat_eq h 0)
         (λ t. let o : claims x fs ≡ phases (row_of p.rows x) = rw t at (s.open_frees x) in
-        let i : mark_deposit r.mark ≡ 0 = calm r.mark (sym none ∙ o ∙ ap phases e) in
+        let i : mark_deposit r.kind r.mark ≡ 0 = calm r.kind r.mark (sym none ∙ o ∙ ap phases e) in
         let l' : 0 + sizes fs ≤ total deposit p.rows + 2 = rw t at l in omega (arith, w, i, l'))
-        (λ t. let l' : 3 + sizes fs ≤ total deposit p.rows + 2 = rw t at l in omega (arith, w, mark_deposit-most r.mark, l'))
+        (λ t. let l' : 3 + sizes fs ≤ total deposit p.rows + 2 = rw t at l in omega (arith, w, mark_deposit-most r.kind r.mark, l'))
 
 looping-placed : (x : Obj) (purpose : Purpose) (fs : List Frame) (p : Pool) (k : ℕ) → Sound (frame.Free (Looping x purpose)) fs p → IsStacked (frame.Free (Looping x purpose)) fs
     → IsPaidFor (frame.Free (Looping x purpose)) fs p → Placed (step (frame.Free (Looping x purpose)) p) fs k
@@ -227,7 +242,7 @@ looping-placed x purpose fs p k s seats l = each (first_kid p.rows (Of x))
     last (Removal h) s seats l =
         let row = dying-row (row_of p.rows x) (claims x fs) (claim-here x InLoop (claims x fs) (row_of p.rows x) (s.open_frees x)) in
         let w = total-without deposit p.rows x row.0 row.1 in
-        let i : deposit row.0 ≡ 3 = ap mark_deposit row.3 in
+        let i : deposit row.0 ≡ 3 = ap (mark_deposit row.0.kind) row.3 in
         (reseat-free (Looping x (Removal h)) (Ending Ok) fs seats, omega (arith, w, i, l))
     last Emptying s seats l = over (Freed Ok) (frame.Free (Looping x Emptying)) fs p k s.waiting seats l
 
@@ -259,11 +274,11 @@ tried-placed x c noted purpose a fs p k s seats l = each a
 -- ---- turns
 
 passes-placed : (f : TurnFrame) (fs : List Frame) (p : Pool) (k : ℕ) (m : Step) → Passes p m → IsStacked (frame.Turn f) fs → IsPaidFor (frame.Turn f) fs p → Placed m fs k
-passes-placed f fs p k _ (Pass g q rows next notes queues times plain) b l = let z = plain.size in (reseat-turn f g fs b, rw rows (omega (arith, l, z, turn-least f)))
-passes-placed f fs p k _ (Trigger x q rows next notes queues times queue) b l = ((tt, reseat-turn f (Serving x) fs b), rw rows (omega (arith, l, turn-least f)))
-passes-placed f fs p k _ (Serve Notify x q rows next notes queues times served noted) b l = ((tt, reseat-turn f (Serving x) fs b), rw rows (omega (arith, l, turn-least f)))
-passes-placed f fs p k _ (Serve (Finish TimedOut) x q rows next notes queues times served noted) b l = ((tt, reseat-turn f (Serving x) fs b), rw rows (omega (arith, l, turn-least f)))
-passes-placed f fs p k _ (Serve _ x q rows next notes queues times served noted) b l = absurd served
+passes-placed f fs p k _ (Pass g q rows next notes queues turning times plain) b l = let z = plain.size in (reseat-turn f g fs b, rw rows (omega (arith, l, z, turn-least f)))
+passes-placed f fs p k _ (Trigger x q rows next notes queues turning times queue) b l = ((tt, reseat-turn f (Serving x) fs b), rw rows (omega (arith, l, turn-least f)))
+passes-placed f fs p k _ (Serve Notify x q rows next notes queues turning times served noted) b l = ((tt, reseat-turn f (Serving x) fs b), rw rows (omega (arith, l, turn-least f)))
+passes-placed f fs p k _ (Serve (Finish TimedOut) x q rows next notes queues turning times served noted) b l = ((tt, reseat-turn f (Serving x) fs b), rw rows (omega (arith, l, turn-least f)))
+passes-placed f fs p k _ (Serve _ x q rows next notes queues turning times served noted) b l = absurd served
 
 -- what an answer leads to is as light
 asked-placed : (f : TurnFrame) (fs : List Frame) (p : Pool) (g : Frame) (t : TurnFrame) → g ≡ frame.Turn t → IsPlain t 13 → IsStacked (frame.Turn f) fs → IsPaidFor (frame.Turn f) fs p
@@ -279,14 +294,14 @@ starting-placed w x occasion fs p k b l = each (handler_for p w x) refl
     each (Some h) e =
         let ready = handler-ready p w x h e in
         let u = total-changed deposit (marked_row Busy) p.rows x ready.row ready.is in
-        rw (e, (rotated-rows w x p).0) (reseat-turn (Starting w x occasion) (Firing w x h occasion) fs b, omega (arith, u, l, ap mark_deposit ready.quiet))
+        rw (e, (rotated-rows w x p).0) (reseat-turn (Starting w x occasion) (Firing w x h occasion) fs b, (let c = ready.context in let busy : deposit (marked_row Busy ready.row) ≡ 3 = rw c refl in omega (arith, u, l, busy, ap (mark_deposit ready.row.kind) ready.quiet)))
 
 handled-placed : (w : What) (x : Obj) (fs : List Frame) (p : Pool) (k : ℕ) → Sound (frame.Turn (Handled w x)) fs p → IsStacked (frame.Turn (Handled w x)) fs
     → IsPaidFor (frame.Turn (Handled w x)) fs p → Placed (turn_step (Handled w x) p) fs k
 handled-placed w x fs p k s b l =
     let row = handling-row (row_of p.rows x) (claims x fs) (claim-here x InHandler (claims x fs) (row_of p.rows x) (s.open_frees x)) in
     let u = total-changed deposit (marked_row Quiet) p.rows x row.0 row.1 in
-    let most = mark_deposit-most row.0.mark in
+    let most = mark_deposit-most row.0.kind row.0.mark in
     by_test (goes_after p w x)
     (λ t. rw t ((tt, reseat-turn (Handled w x) (Clearing x) fs b), omega (arith, u, l, most)))
     (λ t. rw t (reseat-turn (Handled w x) (Closing 1) fs b, omega (arith, u, l, most)))
@@ -304,7 +319,25 @@ turn-placed (Handling w x h occasion) fs p k s b l = ((tt, b), omega (arith, l))
 turn-placed (Handled w x) fs p k s b l = handled-placed w x fs p k s b l
 turn-placed (Clearing x) fs p k s b l = absurd s.rests
 turn-placed (Serving x) fs p k s b l = absurd s.rests
-turn-placed (Closing v) fs p k s b l = over (Turned v) (frame.Turn (Closing v)) fs p k s.waiting b l
+turn-placed (Parting c v) fs p k s b l = absurd s.rests
+turn-placed (Closing v) fs p k s b l = each p.turning refl
+  where
+    free-of : (k : Kind) (m : Mark) → is_context k ≡ true → is_at_turn_mark m ≡ true → mark_deposit k m ≡ 0
+    free-of k Busy i t = rw i refl
+    free-of k Doomed i t = rw i refl
+    free-of k _ i t = cc
+
+    light : (c : Obj) (o : Option Row) → row_of p.rows c ≡ o → IsTurning o → IsPaidFor (frame.Turn (Closing v)) fs (exit p c)
+    light c None e t = absurd t
+    light c (Some r) e t = let w = total-changed deposit (marked_row Quiet) p.rows c r e in let f = free-of r.kind r.mark t.0 t.1 in omega (arith, w, f, l)
+
+    each : (o : Option Obj) → p.turning ≡ o → Placed (closing_step v o p) fs k
+    each None e = over (Turned v) (frame.Turn (Closing v)) fs p k s.waiting b l
+    each (Some c) e =
+        let h = light c (row_of p.rows c) refl (turning-row p.turning p.rows c (row_of p.rows c) s.turned e refl) in
+        by_test (is_doomed p c)
+        (λ d. rw d ((tt, reseat-turn (Closing v) (Parting c v) fs b), omega (arith, h)))
+        (λ d. rw d (over (Turned v) (frame.Turn (Closing v)) fs (exit p c) k s.waiting b h))
 
 -- ---- a question to the outside
 
@@ -326,7 +359,7 @@ prepared-placed : (x : Obj) (fs : List Frame) (p : Pool) (k : ℕ) → Sound (fr
 prepared-placed x fs p k s seats l =
     let row = running-row (row_of p.rows x) (claims x fs) (claim-here x InRun (claims x fs) (row_of p.rows x) (s.open_frees x)) in
     let u = total-changed deposit (marked_row Quiet) p.rows x row.0 row.1 in
-    (reseat-free (Prepared x) (Leaving x 0) fs seats, omega (arith, u, l, mark_deposit-most row.0.mark))
+    (reseat-free (Prepared x) (Leaving x 0) fs seats, omega (arith, u, l, mark_deposit-most row.0.kind row.0.mark))
 
 -- ---- requests
 

@@ -1,4 +1,8 @@
 -- What lowers the measure: works that end, and what rows weigh.
+use Rattle.tree_specs.specs.Invariants.Measure.{turning_cost}
+use Rattle.std.specs.Prelude.{Option, Some, None}
+use Rattle.tree_specs.specs.declared.object.Obj.{Obj}
+use Rattle.tree_specs.proofs.Invariants.Waiters.{ForParting}
 use Rattle.std.proofs.Common.{◌≡◌, ℕ, suc, zero, ◌+◌, ◌*◌, ◌≤◌, ◌<◌, List, [], ◌∷◌, length, Some, refl, ap, arith}
 use Rattle.step_machine.specs.Machine.{Move}
 use Rattle.step_machine.specs.Machine.{Move as Do}
@@ -63,6 +67,11 @@ after-cost R whats.Cleanup a x h errand gs rows = omega arith
 after-cost R whats.Cancel a x h errand gs rows = omega arith
 after-cost R _ a x h errand gs rows = omega arith
 
+-- the freeing of a context costs so much at most
+pub turning-most : (o : Option Obj) → turning_cost o ≤ 8
+turning-most None = omega arith
+turning-most (Some c) = omega arith
+
 -- what a work that is over pays for
 over-pays : (R : ℕ) (a : FreeReply) → IsOver a → (rows : List Row) → length rows ≤ R → (g : Frame) (gs : List Frame) → Waiter g → top_cost R (resume g (Freed a)) gs rows < waiting_cost g + (4 * R + 12)
 over-pays R a o rows n _ gs (ForFree q x) = omega arith
@@ -71,6 +80,7 @@ over-pays R a o rows n _ gs (ForTurn q) = omega arith
 over-pays R a o rows n _ gs (ForHandler what x h occasion) = omega arith
 over-pays R a o rows n _ gs (ForClear x) = omega arith
 over-pays R a o rows n _ gs (ForRequest q) = omega arith
+over-pays R a o rows n _ gs (ForParting c v) = omega arith
 over-pays R a o rows n _ gs (ForServed x) = omega arith
 over-pays R a o rows n _ gs (ForReceived x) = omega arith
 over-pays R a o rows n _ gs (ForRoutine what x h errand) = let l = after-cost R what (Freed a) x h errand gs rows in omega (arith, l)

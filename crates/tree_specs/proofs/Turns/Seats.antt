@@ -1,4 +1,6 @@
 -- Which work may take the place of another, and what it weighs there.
+use Rattle.tree_specs.specs.declared.frame.TurnFrame.TheVariants.{Parting}
+use Rattle.tree_specs.proofs.Invariants.Waiters.{ForParting}
 use Rattle.tree_specs.specs.declared.frame.RequestFrame.{RequestFrame}
 use Rattle.tree_specs.specs.declared.frame.RequestFrame.TheVariants as request
 use Rattle.std.proofs.Common.{◌≡◌, ℕ, ◌+◌, ◌≤◌, List, [], ◌∷◌, refl, arith}
@@ -78,6 +80,7 @@ resumed-seated _ gs a (ForDrained x) s = reseat-free (Draining x) _ gs s
 resumed-seated _ gs a (ForEntry q e) s = reseat-work (request.Dropping q e) _ gs s
 resumed-seated _ gs a (ForHandler w x h occasion) s = reseat-turn (Handling w x h occasion) _ gs s
 resumed-seated _ gs a (ForClear x) s = reseat-turn (Clearing x) _ gs s
+resumed-seated _ gs a (ForParting c v) s = reseat-turn (Parting c v) _ gs s
 resumed-seated _ gs a (ForRun x h) s = reseat-free (Hooked x h) _ gs s
 resumed-seated _ gs a (ForChild x c noted purpose) s = reseat-free (FreeingChild x c noted purpose) _ gs s
 
@@ -113,6 +116,7 @@ size-resume f _ gs a (ForDrained x) s = let n = work-size f s in omega (arith, n
 size-resume f _ gs a (ForEntry q e) s = omega arith
 size-resume f _ gs a (ForHandler w x h occasion) s = let n = run-size f s in omega (arith, n)
 size-resume f _ gs a (ForClear x) s = omega arith
+size-resume f _ gs a (ForParting c v) s = omega arith
 
 -- a work that ends, over rows whose deposit is as great
 pub over : (a : Answer) (f : Frame) (fs : List Frame) (p : Pool) (k : ℕ) → AllWait fs → IsStacked f fs → IsPaidFor f fs p → Placed (Do.Done a p) fs k
