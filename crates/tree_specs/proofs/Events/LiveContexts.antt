@@ -1,6 +1,6 @@
 -- Each context in which something waits is live: what each change of the pool leaves of this.
 use Rattle.std.proofs.Common.{◌≡◌, ◌≢◌, ℕ, Bool, true, false, List, [], ◌∷◌, ◌++◌, Option, Some, None, is_some, refl, sym, ◌∙◌, ap, subst, ◌⊎◌, inl, inr}
-use Rattle.std.specs.Prelude.{not, map}
+use Rattle.std.specs.Prelude.{not, ◌&&◌, map}
 use Rattle.std.specs.List.{find, filter}
 use Rattle.tree_specs.specs.declared.object.Obj.{Obj}
 use Rattle.tree_specs.specs.declared.object.Owner.{Owner}
@@ -226,10 +226,10 @@ lost-nowhere [] c h = cc
 lost-nowhere (w ∷ ws) c h = lost-nowhere ws c h
 
 ring-without : (ws : List Watch) (x c : Obj) → has_watches (ring_without ws x) c ≡ true → (has_watches ws c ≡ true) × (x ≢ c)
-ring-without ws x c h = elim (joined-found (λ (w : Watch). is_same w.context c) (filter (λ w. not (is_same w.context x)) ws) (map lost (ring_in ws x)) h) [
+ring-without ws x c h = elim (joined-found (λ (w : Watch). is_same w.context c) (filter (λ (w : Watch). not (is_same w.context x)) ws) (map lost (ring_in ws x)) h) [
   | inl l ↦ (
     kept-found (λ (w : Watch). is_same w.context c) (λ (w : Watch). not (is_same w.context x)) ws l,
-    λ e. none-kept (λ (w : Watch). is_same w.context x) (λ (w : Watch). not (is_same w.context x)) ws (λ w k. negated (is_same w.context x) k) (subst (λ (z : Obj). has_watches (filter (λ w. not (is_same w.context x)) ws) z ≡ true) (sym e) l),
+    λ e. none-kept (λ (w : Watch). is_same w.context x) (λ (w : Watch). not (is_same w.context x)) ws (λ w k. negated (is_same w.context x) k) (subst (λ (z : Obj). has_watches (filter (λ (w : Watch). not (is_same w.context x)) ws) z ≡ true) (sym e) l),
   )
   | inr r ↦ absurd (lost-nowhere (ring_in ws x) c r)
 ]
