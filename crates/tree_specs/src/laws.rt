@@ -108,14 +108,15 @@ pub fn every_story_is_grounded()
 /// What waits for its turn is at every moment a live event with a handler: an immediate where it comes soon, a timer
 /// where it has a time, a descriptor's event where it watches; or a live request, where it comes soon or has an end
 /// time. What is being freed, or will be once its handler is over, waits no more, and only events have handlers. Each
-/// descriptor that is watched is open, and one event watches it.
+/// descriptor that is watched is open, and one event watches it. Each context in which something waits is the first
+/// one, or one that neither is being freed nor will be after its turn.
 pub fn what_waits_is_a_live_event()
     ensures in_stories { (first : ℕ) (is : List InputData) → 1 ≤ first → EachFits AwaitsBefore (story first is) }
     ensures after_each_step { (v : View) → IsConsistent v → Awaits v.pool → Awaits (pool_after (step v.innermost v.pool)) }
 {}
 
-/// A turn replies 0 exactly where nothing came: nothing was to come soon, no time had come at the last look, and no
-/// event waited for what its descriptor was ready for.
+/// A turn of a context that isn't to be freed replies 0 exactly where nothing came in it: nothing was to come soon, no
+/// time had come at the last look, and no event waited for what its descriptor was ready for.
 pub fn a_turn_replies_0_where_nothing_came()
     ensures cause { (n : ℕ) (p q : Pool) (is left : List InputData) (told : List Scene) → Remains p → taking n p is ≡ Ended 0 q told left → (used : List InputData) × (used ++ left ≡ is) × NothingCame p used }
     ensures idle { (p : Pool) (used left : List InputData) (n : ℕ) → Remains p → NothingCame p used → 8 ≤ n → (q : Pool) × (told : List Scene) × (taking n p (used ++ left) ≡ Ended 0 q told left) }
@@ -128,8 +129,9 @@ pub fn an_answer_is_in_its_range()
         (0 < new) × (is_open p new ≡ false) × (is_open q new ≡ true) }
 {}
 
-/// What a change does to the lists of all contexts it does to the lists of each: those of its own context change as those of a loop that
-/// has no other one, and those of any other context lose the object alone. A context that goes leaves nothing.
+/// What a change does to the lists of all contexts it does to the lists of each: those of its own context change as
+/// those of a loop that has no other one, and those of any other context lose the object alone. A context that goes
+/// leaves nothing.
 pub fn each_context_has_its_lists()
     ensures soon { (xs : List ComingData) (x c : ObjData) → soon_in (scheduled xs x c) c ≡ scheduled (soon_in xs c) x c }
     ensures elsewhere { (xs : List ComingData) (x c d : ObjData) → same d c ≡ false → soon_in (scheduled xs x d) c ≡ unscheduled (soon_in xs c) x }

@@ -81,10 +81,11 @@ pub record MayWatch (p : Pool) (x : Obj) (fd : ℕ) : Type 0 where
   pub free : is_watched p.ring fd ≡ false
   pub open_one : is_open p fd ≡ true
 
--- how an event watches is changed, but not what it watches
+-- how an event watches is changed, but not what it watches, nor in which context
 pub record KeepsWatched (g : Watch → Watch) : Type 0 where
   pub object : (w : Watch) → (g w).object ≡ w.object
   pub fd : (w : Watch) → (g w).fd ≡ w.fd
+  pub context : (w : Watch) → (g w).context ≡ w.context
 
 abbrev pub MayDo : Pool → Change → Type 0
 MayDo p (Edit x g) = MayBeEdited p x g

@@ -219,20 +219,20 @@ module _ (f : Frame) (fs : List Frame) (p : Pool) (s : Sound f fs p) where
         tt,
         omega arith,
       )
-  each (call.Flags x flags) h = (record { object = λ w. refl; fd = λ w. refl }, omega arith, tt, omega arith)
+  each (call.Flags x flags) h = (record { object = λ w. refl; fd = λ w. refl; context = λ w. refl }, omega arith, tt, omega arith)
   each (call.Getflags x) h = (tt, omega arith, tt, omega arith)
-  each (call.Autoclose x) h = (record { object = λ w. refl; fd = λ w. refl }, omega arith, tt, omega arith)
+  each (call.Autoclose x) h = (record { object = λ w. refl; fd = λ w. refl; context = λ w. refl }, omega arith, tt, omega arith)
   each (call.Close fd) h = (h.1.0, omega arith, tt, omega arith)
   each (call.Accept fd) h = tt
   each (call.Read fd len) h = tt
   each (call.Write fd bytes) h = tt
   each (call.Req o size name) h = ((h.1.0, nobody p s.valid), omega arith, tt, omega arith)
   each (call.Callback x routine user) h = (λ n. refl, omega arith, tt, omega arith)
-  each (call.Defer x) h = (λ n. refl, omega arith, tt, omega arith)
+  each (call.Defer x c) h = (λ n. refl, omega arith, tt, omega arith)
   each (call.Cleanup x routine) h = (λ n. refl, omega arith, tt, omega arith)
   each (call.Setcancel x routine) h = (λ n. refl, omega arith, tt, omega arith)
   each (call.Cancel x) h = (tt, refl, refl, tt)
-  each (call.Post x) h = (posted what.Immediate x refl h.1.0, omega arith, tt, omega arith)
+  each (call.Post x c) h = (posted what.Immediate x refl h.1.0, omega arith, tt, omega arith)
   each (call.Done x) h = finishes x state.Done tt h.1.0 h.1.1.0
   each (call.Error x error) h = by_test (nat_eq error 0)
       (λ t. rw t (tt, omega arith, tt, omega arith))
@@ -240,10 +240,10 @@ module _ (f : Frame) (fs : List Frame) (p : Pool) (s : Sound f fs p) where
   each (call.Oom x) h = finishes x state.NoMemory tt h.1.0 h.1.1.0
   each (call.Iserror x) h = (tt, omega arith, tt, omega arith)
   each (call.Progress x) h = (tt, omega arith, tt, omega arith)
-  each (call.Endtime x time) h = ((posted what.Timer x refl h.1.0, tt), omega arith, tt, omega arith)
+  each (call.Endtime x time c) h = ((posted what.Timer x refl h.1.0, tt), omega arith, tt, omega arith)
   each (call.Received x) h = (tt, refl, refl, (h.0.0, h.0.1))
   each (call.Queue o name) h = (h.0, omega arith, tt, omega arith)
-  each (call.Enqueue q x routine user) h = ((h.1.1.1.1.0, queue-waits q h.1.0, h.1.0, nobody p s.valid), omega arith, tt, omega arith)
+  each (call.Enqueue q x routine user c) h = ((h.1.1.1.1.0, queue-waits q h.1.0, h.1.0, nobody p s.valid), omega arith, tt, omega arith)
   each (call.Start q) h = by_test (runs p.queues q)
       (λ t. rw t (tt, omega arith, tt, omega arith))
       (λ t. let w = queue-waits q h.1.0 in rw t ((tt, record { comes = w.comes; ready = w.ready }), omega arith, tt, omega arith))

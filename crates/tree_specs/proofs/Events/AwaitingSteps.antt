@@ -1,6 +1,6 @@
 -- Each step leaves what waits as it must be.
 use Rattle.tree_specs.proofs.Calls.NewEvents.{queue-no-context}
-use Rattle.tree_specs.specs.Tree.Pool.{enter, exit, soon_here, times_here}
+use Rattle.tree_specs.specs.Tree.Pool.{enter, exit, soon_here, times_here, is_usable, target_in}
 use Rattle.tree_specs.specs.Words.Objects.{first_context}
 use Rattle.tree_specs.specs.declared.coming.Coming.{Coming}
 use Rattle.tree_specs.specs.declared.frame.TurnFrame.TheVariants.{Closing}
@@ -57,7 +57,7 @@ use Rattle.tree_specs.specs.declared.frame.Purpose.TheVariants.{Removal, Emptyin
 use Rattle.tree_specs.specs.declared.free_step.FreeReply.{FreeReply}
 use Rattle.tree_specs.specs.declared.free_step.FreeReply.TheVariants.{Ok}
 use Rattle.tree_specs.specs.Tree.Pool.{Pool, row_of, passes, add, note, add_request, add_queue, add_entry, run_queue, trigger, schedule, unschedule, disarm, renote, finish, remove, target_at, newest_ref_of, is_below, owner_of, is_inside, first_kid, left_row, marked_row, hooked_row}
-use Rattle.tree_specs.specs.Tree.Targets.{newest_ref}
+use Rattle.tree_specs.specs.Tree.Targets.{newest_ref, target_of, is_context}
 use Rattle.tree_specs.specs.Tree.Heirs.{heir}
 use Rattle.tree_specs.specs.Tree.Forest.{Distinct}
 use Rattle.tree_specs.specs.declared.call.Call.{Call}
@@ -70,10 +70,10 @@ use Rattle.tree_specs.specs.Events.Rotation.{is_watching}
 use Rattle.tree_specs.specs.Events.Coming.{handler_for, rotated, goes_after}
 use Rattle.tree_specs.specs.Machine.Profiles.{InLoop}
 use Rattle.tree_specs.specs.Machine.FreeTable.{FreeMove, begin_step, refs_step, unlink_step, release_step, judge_step, last_step, child_step, loop_step, hand_on_step, tried_step, free_step}
-use Rattle.tree_specs.specs.Machine.Table.{event_of, announced, lifted, notice_step, plan_step, turning_step, due_step, taking_step, timed_step, early_step, due_now, starting_step, handled_step, turn_step, outside_step, cancelling_step, cleaning_step, release_object, cleaned_step, callback_step, notifying_step, vacating_step, triggering_step, request_step, step}
+use Rattle.tree_specs.specs.Machine.Table.{event_of, announced, lifted, notice_step, plan_step, turning_step, due_step, taking_step, timed_step, early_step, due_now, starting_step, handled_step, turn_step, outside_step, cancelling_step, cleaning_step, release_object, cleaned_step, callback_step, deferred_step, notifying_step, vacating_step, triggering_step, request_step, step}
 use Rattle.tree_specs.specs.Invariants.Sound.{ValidAt, phases, claims, Rests, Sound}
 use Rattle.tree_specs.specs.Invariants.Queued.{IsEntryRow, AreQueued, QueuesHold}
-use Rattle.tree_specs.specs.Invariants.Awaiting.{waits_as, waits_as_row, is_event, is_event_row, MayCome, IsHandled, Awaits, pool_after}
+use Rattle.tree_specs.specs.Invariants.Awaiting.{waits_as, waits_as_row, is_event, is_event_row, MayCome, IsHandled, is_live_context_row, Awaits, pool_after}
 use Rattle.tree_specs.proofs.Tree.Numbered.{by_test, same-false}
 use Rattle.tree_specs.proofs.Tree.Referring.{newest-refers, newest-of-refers}
 use Rattle.tree_specs.proofs.Invariants.Changes.{dying-row, claim-here, heir-placed}
@@ -81,6 +81,7 @@ use Rattle.tree_specs.proofs.Calls.Plans.{May, may-planned}
 use Rattle.tree_specs.proofs.Calls.Changes.{MayDo, change-sound}
 use Rattle.tree_specs.proofs.Calls.NewEvents.{AreNew, OnlyNew, quiet-spared, new-events}
 use Rattle.tree_specs.proofs.Events.QueueLaws.{has-without}
+use Rattle.tree_specs.proofs.Events.LiveContexts.{usable-context}
 use Rattle.tree_specs.proofs.Invariants.Queues.{find-waiting, next-head}
 use Rattle.tree_specs.proofs.Invariants.FreeQueues.{drained-spared}
 use Rattle.tree_specs.proofs.Events.Awaiting.{MayLook, looked-awaits, changed-awaits, marked-awaits, placed-awaits, gone-awaits, kept-awaits, removed-awaits, added-awaits, handled-awaits, scheduled-awaits, armed-awaits, unscheduled-awaits, disarmed-awaits, watching-awaits, rewatched-awaits, turned-awaits, opened-awaits, closed-awaits, reference-stays}
@@ -92,14 +93,27 @@ comes w (Some r) t d = (t, d)
 
 -- ---- frees
 
+-- a reference is no context
+reference-dead : (p : Pool) (r t : Obj) → target_at p.rows r ≡ Some t → is_live_context_row (row_of p.rows r) ≡ false
+reference-dead p r t is = each (row_of p.rows r) is
+  where
+    kinds : (k : Kind) → target_of k ≡ Some t → is_context k ≡ false
+    kinds kind.Context e = cc
+    kinds _ e = refl
+
+    each : (o : Option Row) → target_in o ≡ Some t → is_live_context_row o ≡ false
+    each None e = refl
+    each (Some row) e = rw (kinds row.kind e) refl
+
 -- an object that is removed is dying
 removed : (x : Obj) (h : ℕ) (fs : List Frame) (p : Pool) → Sound (frame.Free (Looping x (Removal h))) fs p → Awaits p → Awaits (remove p x)
 removed x h fs p s a =
     let row = dying-row (row_of p.rows x) (claims x fs) (claim-here x InLoop (claims x fs) (row_of p.rows x) (s.open_frees x)) in
-    removed-awaits p x (λ w c. (let c' : MayCome w (Some row.0) = rw row.1 at c in let bad : true ≡ false = rw row.3 at c'.1 in cc)) a
+    removed-awaits p x (λ w c. (let c' : MayCome w (Some row.0) = rw row.1 at c in let bad : true ≡ false = rw row.3 at c'.1 in cc))
+    (rw (row.1, row.3) (by_test (is_context row.0.kind) (λ t. rw t refl) (λ t. rw t refl))) a
 
 newest : (p : Pool) (x r : Obj) → Distinct p.rows → newest_ref p.rows x ≡ Some r → Awaits p → Awaits (remove p r)
-newest p x r d e a = let w = newest-refers p.rows x r d e in removed-awaits p r (reference-stays p r x (rw w.1 w.2)) a
+newest p x r d e a = let w = newest-refers p.rows x r d e in removed-awaits p r (reference-stays p r x (rw w.1 w.2)) (reference-dead p r x (rw w.1 w.2)) a
 
 beginning : (x : Obj) (fs : List Frame) (p : Pool) → Sound (frame.Free (Beginning x)) fs p → AreQueued p → Awaits p → Awaits (pool_after (refs_step x (newest_ref p.rows x) p))
 beginning x fs p s queued a = each (newest_ref p.rows x) refl
@@ -142,7 +156,7 @@ unlinking o x fs p s a = each (newest_ref_of p.rows o x) refl
   where
     each : (n : Option Obj) → newest_ref_of p.rows o x ≡ n → Awaits (pool_after (unlink_step x n p))
     each None e = a
-    each (Some r) e = let w = newest-of-refers p.rows o x r s.forest.distinct e in removed-awaits p r (reference-stays p r x (rw w.1 w.2)) a
+    each (Some r) e = let w = newest-of-refers p.rows o x r s.forest.distinct e in removed-awaits p r (reference-stays p r x (rw w.1 w.2)) (reference-dead p r x (rw w.1 w.2)) a
 
 -- a queue that has entries, of which one leaves, may come soon
 leaving : (x : Obj) (h : ℕ) (fs : List Frame) (p : Pool) → Sound (frame.Free (Leaving x h)) fs p → QueuesHold (frame.Free (Leaving x h) ∷ fs) p → MayLook p x (entry_of p.queues x)
@@ -191,7 +205,7 @@ looping x purpose fs p s a = each (first_kid p.rows (Of x))
 
     child : (c : Obj) (o : Option Obj) → target_at p.rows c ≡ o → Awaits (pool_after (child_step x c purpose o p))
     child c None e = a
-    child c (Some t) e = removed-awaits p c (reference-stays p c t e) a
+    child c (Some t) e = removed-awaits p c (reference-stays p c t e) (reference-dead p c t e) a
 
     each : (o : Option Obj) → Awaits (pool_after (loop_step x purpose o p))
     each None = last purpose s
@@ -290,11 +304,11 @@ change-awaits f fs p (Edit x g) s calm may new a = changed-awaits g p x (record 
 change-awaits f fs p (Add kind o size name) s calm may new a = added-awaits p kind o size name (fresh p.next _ (s.valid (record { 0 = p.next }))) a
 change-awaits f fs p (Place o x) s calm may new a = placed-awaits p o x may a
 change-awaits f fs p (Handle x handler) s calm may new a = handled-awaits p x handler may a
-change-awaits f fs p (Schedule x c) s calm may new a = scheduled-awaits p x c (comes Immediate (row_of p.rows x) may.comes new) may.ready a
+change-awaits f fs p (Schedule x c) s calm may new a = scheduled-awaits p x c (comes Immediate (row_of p.rows x) may.comes new.0) may.ready new.1 a
 change-awaits f fs p (Unschedule x) s calm may new a = unscheduled-awaits p x a
-change-awaits f fs p (Arm x time number c) s calm may new a = armed-awaits p x time number c (comes Timer (row_of p.rows x) may.comes new) may.ready a
-change-awaits f fs p (Watches x fd flags c) s calm may new a = watching-awaits p x fd flags c may.comes (λ i. may.ready) new may.free may.open_one a
-change-awaits f fs p (Rewatch x g) s calm may new a = rewatched-awaits p x g may.object may.fd a
+change-awaits f fs p (Arm x time number c) s calm may new a = armed-awaits p x time number c (comes Timer (row_of p.rows x) may.comes new.0) may.ready new.1 a
+change-awaits f fs p (Watches x fd flags c) s calm may new a = watching-awaits p x fd flags c may.comes (λ i. may.ready) new.0 may.free may.open_one new.1 a
+change-awaits f fs p (Rewatch x g) s calm may new a = rewatched-awaits p x g may.object may.fd may.context a
 change-awaits f fs p (Close fd) s calm may new a = closed-awaits p fd may a
 change-awaits f fs p (AddRequest o size name) s calm may new a = requested-awaits p o size name s.valid a
 change-awaits f fs p TakeNumber s calm may new a = kept-awaits p (changed_by TakeNumber p) a refl refl refl refl refl refl
@@ -414,7 +428,7 @@ module _ (fs : List Frame) (p : Pool) (a : Awaits p) where
   -- a request with which nothing goes on comes soon
   notifying : (x : Obj) (errand : Errand) → phases (row_of p.rows x) ≡ [] → NotesHold None p → (o : Option Note) → note_of p.requests x ≡ o → Awaits (pool_after (notifying_step x errand o p))
   notifying x errand quiet holds None e = a
-  notifying x errand quiet holds (Some n) e = by_test n.deferred (λ t. rw t comes-soon) (λ t. rw t (back n.callback))
+  notifying x errand quiet holds (Some n) e = deferred n.deferred
     where
       q : Pool
       q = renote p x not_deferring
@@ -430,15 +444,22 @@ module _ (fs : List Frame) (p : Pool) (a : Awaits p) where
       waits None t = cc
       waits (Some r) t = kinds r.kind t
 
-      comes-soon : Awaits (schedule q x first_context)
-      comes-soon =
+      kept : Awaits q
+      kept = kept-awaits p q a refl refl refl refl refl refl
+
+      comes-soon : (c : Obj) → is_usable p.rows c ≡ true → Awaits (schedule q x c)
+      comes-soon c t =
           let w = waits (row_of p.rows x) row in
-          scheduled-awaits q x first_context (comes Immediate (row_of p.rows x) w.0 (quiet-spared (row_of p.rows x) (request-no-context (row_of p.rows x) row) quiet)) (λ i. let bad : true ≡ false = sym i ∙ w.1 in cc)
-          (kept-awaits p q a refl refl refl refl refl refl)
+          scheduled-awaits q x c (comes Immediate (row_of p.rows x) w.0 (quiet-spared (row_of p.rows x) (request-no-context (row_of p.rows x) row) quiet)) (λ i. let bad : true ≡ false = sym i ∙ w.1 in cc)
+          (usable-context p.rows c t) kept
 
       back : (o : Option Handler) → Awaits (pool_after (callback_step x errand o p))
       back None = a
       back (Some handler) = a
+
+      deferred : (o : Option Obj) → Awaits (pool_after (deferred_step x errand o n.callback p))
+      deferred None = back n.callback
+      deferred (Some c) = by_test (is_usable p.rows c) (λ t. rw t (comes-soon c t)) (λ t. rw t kept)
 
 -- a queue is emptied, or triggers its first entry
 module _ (p : Pool) (a : Awaits p) where
@@ -467,7 +488,7 @@ request-awaits _ fs p sound n c a = a
 
 -- every step leaves what waits as it must be
 pub step-awaits : (f : Frame) (fs : List Frame) (p : Pool) → Sound f fs p → Noted f p → QueuesHold (f ∷ fs) p → IsCalm f fs → Awaits p → Awaits (pool_after (step f p))
-step-awaits (frame.Call (Doing q c)) fs p s n h c' a = planned-awaits q c fs p s (planned p c) (may-planned (frame.Call (Doing q c)) fs p s c) (new-events p (unwatching p s.valid a) n.pool c) a
+step-awaits (frame.Call (Doing q c)) fs p s n h c' a = planned-awaits q c fs p s (planned p c) (may-planned (frame.Call (Doing q c)) fs p s c) (new-events p (unwatching p s.valid a) (fresh p.next _ (s.valid (record { 0 = p.next }))) n.pool c) a
 step-awaits (frame.Call (Asking q)) fs p s n h c a = a
 step-awaits (frame.Call _) fs p s n h c a = a
 step-awaits (frame.Free f) fs p s n h c a = lifted-awaits p.ring (free_step f p) (free-awaits f fs p s h a)

@@ -1,6 +1,6 @@
 -- What each step keeps of what is so of the works below one: the host's own caller stands on nothing, and nothing goes on with
 -- a request that is to be notified.
-use Rattle.tree_specs.specs.Machine.Table.{closing_step}
+use Rattle.tree_specs.specs.Machine.Table.{closing_step, deferred_step}
 use Rattle.tree_specs.specs.Calls.Refusals.{is_doomed}
 use Rattle.tree_specs.specs.Tree.Pool.{exit}
 use Rattle.tree_specs.proofs.Invariants.Waiters.{ForParting}
@@ -208,11 +208,15 @@ module _ (fs : List Frame) (p : Pool) (k : ℕ) (h : AllCalm fs) where
 
   notifying-calm : (x : Obj) (errand : Errand) → claims x fs ≡ [] → (o : Option Note) → CalmBy (notifying_step x errand o p) fs k
   notifying-calm x errand c None = (tt, h)
-  notifying-calm x errand c (Some n) = by_test n.deferred (λ t. rw t (tt, h)) (λ t. rw t (back n.callback))
+  notifying-calm x errand c (Some n) = deferred n.deferred
     where
       back : (o : Option Handler) → CalmBy (callback_step x errand o p) fs k
       back None = (tt, h)
       back (Some handler) = (from-none errand x fs c, h)
+
+      deferred : (o : Option Obj) → CalmBy (deferred_step x errand o n.callback p) fs k
+      deferred None = back n.callback
+      deferred (Some d) = (tt, h)
 
   -- only what wasn't received is cancelled
   cancelling-calm : (x : Obj) → claims x fs ≡ phases (row_of p.rows x) → NotesHold None p → (o : Option Note) → note_of p.requests x ≡ o → CalmBy (cancelling_step x (cancel_in o) p) fs k

@@ -1,7 +1,7 @@
 -- What each step keeps of what holds of requests.
-use Rattle.tree_specs.specs.Machine.Table.{closing_step}
+use Rattle.tree_specs.specs.Machine.Table.{closing_step, deferred_step}
 use Rattle.tree_specs.specs.Calls.Refusals.{is_doomed}
-use Rattle.tree_specs.specs.Tree.Pool.{exit}
+use Rattle.tree_specs.specs.Tree.Pool.{exit, is_usable}
 use Rattle.tree_specs.proofs.Calls.Changes.{usable-row}
 use Rattle.tree_specs.specs.Tree.Pool.{enter, marked_row, set_mark}
 use Rattle.tree_specs.specs.declared.row.Mark.TheVariants.{Busy}
@@ -96,9 +96,9 @@ module _ (p : Pool) (new : IsInProgress p (record { 0 = p.next })) where
   each (call.Timer o time routine user c) h = (refl, (tt, new))
   each (call.Fd o fd flags routine user c) h = (refl, (tt, tt))
   each (call.Error x error) h = by_test (nat_eq error 0) (λ t. rw t tt) (λ t. rw t tt)
-  each (call.Endtime x time) h = (h.1.1.0, tt)
+  each (call.Endtime x time c) h = (h.1.1.0, tt)
   each (call.Queue o name) h = tt
-  each (call.Enqueue q x routine user) h = tt
+  each (call.Enqueue q x routine user c) h = tt
   each (call.Start q) h = by_test (runs p.queues q) (λ t. rw t tt) (λ t. rw t (tt, tt))
   each _ h = tt
 
@@ -262,13 +262,19 @@ module _ (fs : List Frame) (p : Pool) (k : ℕ) (h : NotesHold None p) where
 
   notifies : (x : Obj) (errand : Errand) (o : Option Note) → note_of p.requests x ≡ o → NotedBy (notifying_step x errand o p) fs k
   notifies x errand None e = record { pool = h; works = tt }
-  notifies x errand (Some n) e = by_test n.deferred
-      (λ t. let r = renoted-holds not_deferring p x (λ m. refl) h in rw t (record { pool = same-holds (renote p x not_deferring) (schedule (renote p x not_deferring) x first_context) r refl refl (λ y u. u); works = tt }))
-      (λ t. rw t (back n.callback))
+  notifies x errand (Some n) e = deferred n.deferred
     where
       back : (o : Option Handler) → NotedBy (callback_step x errand o p) fs k
       back None = record { pool = h; works = tt }
       back (Some handler) = record { pool = h; works = (is-request p x h (rw e refl), tt) }
+
+      deferred : (o : Option Obj) → NotedBy (deferred_step x errand o n.callback p) fs k
+      deferred None = back n.callback
+      deferred (Some c) =
+          let r = renoted-holds not_deferring p x (λ m. refl) h in
+          by_test (is_usable p.rows c)
+          (λ t. rw t (record { pool = same-holds (renote p x not_deferring) (schedule (renote p x not_deferring) x c) r refl refl (λ y u. u); works = tt }))
+          (λ t. rw t (record { pool = r; works = tt }))
 
 -- what is in progress wasn't received
 pub going-unreceived : (p : Pool) (x : Obj) (n : Note) → IsInProgress p x → note_of p.requests x ≡ Some n → is_unreceived (Some n) ≡ true

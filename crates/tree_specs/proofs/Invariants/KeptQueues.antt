@@ -5,8 +5,8 @@ use Rattle.tree_specs.proofs.Invariants.Changes.{turning-row}
 use Rattle.tree_specs.proofs.Calls.Changes.{usable-row, usable-mark}
 use Rattle.tree_specs.specs.Invariants.Sound.{is_at_turn_mark, IsTurning}
 use Rattle.tree_specs.specs.Calls.Refusals.{is_doomed}
-use Rattle.tree_specs.specs.Machine.Table.{closing_step}
-use Rattle.tree_specs.specs.Tree.Pool.{exit, set_mark, marked_row}
+use Rattle.tree_specs.specs.Machine.Table.{closing_step, deferred_step, over_step}
+use Rattle.tree_specs.specs.Tree.Pool.{exit, set_mark, marked_row, is_usable}
 use Rattle.tree_specs.specs.declared.row.Mark.TheVariants.{Quiet, Busy, Doomed}
 use Rattle.tree_specs.specs.Calls.Passed.{IsUsable}
 use Rattle.tree_specs.specs.Calls.Plans.Change.{Enter}
@@ -189,8 +189,8 @@ module _ (p : Pool) (refers : Refers p.rows) (distinct : Distinct p.rows) where
   each (call.Timer o time routine user c) h = ((refl, refl), (tt, tt))
   each (call.Fd o fd flags routine user c) h = ((refl, refl), (tt, tt))
   each (call.Error x error) h = by_test (nat_eq error 0) (λ t. rw t tt) (λ t. rw t tt)
-  each (call.Endtime x time) h = (tt, tt)
-  each (call.Enqueue q x routine user) h = h.1.1.0
+  each (call.Endtime x time c) h = (tt, tt)
+  each (call.Enqueue q x routine user c) h = h.1.1.0
   each (call.Start q) h = by_test (runs p.queues q) (λ t. rw t tt) (λ t. rw t (tt, tt))
   each _ h = tt
 
@@ -369,13 +369,20 @@ module _ (fs : List Frame) (p : Pool) (k : ℕ) where
 
   notifies : (x : Obj) (errand : Errand) → IsRequested (footing fs) → Queued (frame.Request (request.Notifying x errand)) fs p → (o : Option Note) → QueuedBy (notifying_step x errand o p) fs k
   notifies x errand r u None = on (request.Notifying x errand) fs p k u _ p refl refl (over-here p r)
-  notifies x errand r u (Some n) = by_test n.deferred
-      (λ t. let q : Pool = schedule (renote p x not_deferring) x first_context in rw t (on (request.Notifying x errand) fs p k u _ q refl refl (over-here q r)))
-      (λ t. rw t (back n.callback))
+  notifies x errand r u (Some n) = deferred n.deferred
     where
       back : (o : Option Handler) → QueuedBy (callback_step x errand o p) fs k
       back None = on (request.Notifying x errand) fs p k u _ p refl refl (over-here p r)
       back (Some handler) = on (request.Notifying x errand) fs p k u _ p refl refl tt
+
+      to : (q : Pool) → q.rows ≡ p.rows → q.queues ≡ p.queues → QueuedBy (over_step errand q) fs k
+      to q rows queues = on (request.Notifying x errand) fs p k u _ q rows queues (over-here q r)
+
+      deferred : (o : Option Obj) → QueuedBy (deferred_step x errand o n.callback p) fs k
+      deferred None = back n.callback
+      deferred (Some c) = by_test (is_usable p.rows c)
+          (λ t. rw t (to (schedule (renote p x not_deferring) x c) refl refl))
+          (λ t. rw t (to (renote p x not_deferring) refl refl))
 
   -- the entries of a queue are freed; once there is none it is over
   vacates : (q : Obj) → Drains q (footing fs) → Queued (frame.Request (request.Vacating q)) fs p → (o : Option Head) → head_of p.queues q ≡ o → QueuedBy (vacating_step q o (run_queue p q false)) fs k

@@ -20,14 +20,14 @@ use Rattle.tree_specs.specs.declared.frame.RequestFrame.TheVariants as request
 use Rattle.tree_specs.specs.declared.frame.Answer.TheVariants.{Heard}
 use Rattle.tree_specs.specs.Words.Objects.{same}
 use Rattle.tree_specs.specs.Tree.Targets.{target_of, newest_ref}
-use Rattle.tree_specs.specs.Tree.Pool.{Pool, row_of, target_in, target_at, set_mark, marked_row, finish, receive, run_queue, trigger}
-use Rattle.tree_specs.specs.Events.Requests.{note_of, is_unreceived, cleanup_in, cancel_in}
+use Rattle.tree_specs.specs.Tree.Pool.{Pool, row_of, target_in, target_at, set_mark, marked_row, finish, receive, run_queue, trigger, is_usable, schedule, renote}
+use Rattle.tree_specs.specs.Events.Requests.{note_of, is_unreceived, cleanup_in, cancel_in, not_deferring}
 use Rattle.tree_specs.specs.Events.Coming.{handler_moment, plainly}
 use Rattle.tree_specs.specs.Rules.Errands.{reply_to}
 use Rattle.tree_specs.specs.Calls.Plans.{Plan, planned}
 use Rattle.tree_specs.specs.Calls.Plans.Plan.{Frees, Unlinks}
 use Rattle.tree_specs.specs.Machine.Profiles.{InRun}
-use Rattle.tree_specs.specs.Machine.Table.{step, cancelling_step, cleaning_step, release_object, cleaned_step, callback_step, notifying_step, request_step, vacating_step, triggering_step}
+use Rattle.tree_specs.specs.Machine.Table.{step, cancelling_step, cleaning_step, release_object, cleaned_step, callback_step, notifying_step, request_step, vacating_step, triggering_step, deferred_step}
 use Rattle.tree_specs.specs.Invariants.Sound.{phases, claims, footing, IsLive, IsRequested, RequestRests, Sound, Footing, Drains, IsPrepared}
 use Rattle.tree_specs.proofs.Tree.Numbered.{by_test, same-false}
 use Rattle.tree_specs.proofs.Tree.Rows.{row_of-changed-same}
@@ -86,11 +86,17 @@ cleaned-kept x errand fs p k s (Some n) = goes (request.Cleaned x errand) (reque
 
 notifying-kept : (x : Obj) (errand : Errand) (fs : List Frame) (p : Pool) (k : ℕ) → Sound (frame.Request (request.Notifying x errand)) fs p → (o : Option Note) → KeptBy (notifying_step x errand o p) fs k
 notifying-kept x errand fs p k s None = goes (request.Notifying x errand) _ fs p p refl refl refl s (prepared-on (footing fs) s.rests)
-notifying-kept x errand fs p k s (Some n) = by_test n.deferred (λ t. rw t (goes (request.Notifying x errand) _ fs p _ refl refl refl s (prepared-on (footing fs) s.rests))) (λ t. rw t (back n.callback))
+notifying-kept x errand fs p k s (Some n) = deferred n.deferred
   where
     back : (o : Option Handler) → KeptBy (callback_step x errand o p) fs k
     back None = goes (request.Notifying x errand) _ fs p p refl refl refl s (prepared-on (footing fs) s.rests)
     back (Some handler) = goes (request.Notifying x errand) _ fs p p refl refl refl s s.rests
+
+    deferred : (o : Option Obj) → KeptBy (deferred_step x errand o n.callback p) fs k
+    deferred None = back n.callback
+    deferred (Some c) = by_test (is_usable p.rows c)
+        (λ t. rw t (goes (request.Notifying x errand) _ fs p (schedule (renote p x not_deferring) x c) refl refl refl s (prepared-on (footing fs) s.rests)))
+        (λ t. rw t (goes (request.Notifying x errand) _ fs p (renote p x not_deferring) refl refl refl s (prepared-on (footing fs) s.rests)))
 
 -- the freeing of the first entry of a queue begins
 vacating-kept : (q : Obj) (fs : List Frame) (p : Pool) (k : ℕ) → Sound (frame.Request (request.Vacating q)) fs p → AreQueued p → KeptBy (request_step (request.Vacating q) p) fs k

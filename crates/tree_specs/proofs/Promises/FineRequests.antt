@@ -1,6 +1,5 @@
 -- Each step of a request's work, and of a free that waits for it, tells what is fine.
 use Rattle.tree_specs.specs.Promises.Grounded.{InContext}
-use Rattle.tree_specs.specs.Words.Objects.{first_context}
 use Rattle.std.proofs.Common.{◌≡◌, ℕ, ◌≤◌, ◌<◌, List, [], ◌∷◌, ◌++◌, Option, Some, None, true, false, map, refl, ◌∙◌, arith}
 use Rattle.std.specs.Prelude.{not}
 use Rattle.std.specs.List.{list_any}
@@ -31,7 +30,7 @@ use Rattle.tree_specs.specs.declared.frame.FreeFrame.TheVariants.{Beginning, Unl
 use Rattle.tree_specs.specs.declared.frame.RequestFrame.{RequestFrame}
 use Rattle.tree_specs.specs.declared.frame.RequestFrame.TheVariants as request
 use Rattle.tree_specs.specs.declared.frame.Answer.TheVariants as answer
-use Rattle.tree_specs.specs.Tree.Pool.{Pool, row_of, set_mark, schedule, renote, finish, receive, run_queue, trigger}
+use Rattle.tree_specs.specs.Tree.Pool.{Pool, row_of, set_mark, schedule, renote, finish, receive, run_queue, trigger, is_usable}
 use Rattle.tree_specs.specs.Events.Requests.{state_number, note_of, is_noted, is_in_progress, is_received, is_unreceived, cleanup_in, cancel_in, cleaned, not_deferring, in_state, renoted}
 use Rattle.tree_specs.specs.Events.Coming.{handler_moment, plainly}
 use Rattle.tree_specs.specs.Calls.Refusals as refusals
@@ -43,7 +42,7 @@ use Rattle.tree_specs.specs.Rules.Items.Item.{Told}
 use Rattle.tree_specs.specs.Rules.Sequence.{CallStart, Scene}
 use Rattle.tree_specs.specs.Rules.Errands.{reply_to, cancelled_reply}
 use Rattle.tree_specs.specs.Machine.Profiles.{InRun}
-use Rattle.tree_specs.specs.Machine.Table.{notes, step, over_step, cancelling_step, cleaning_step, release_object, cleaned_step, callback_step, notifying_step, request_step, vacating_step, triggering_step}
+use Rattle.tree_specs.specs.Machine.Table.{notes, step, over_step, cancelling_step, cleaning_step, release_object, cleaned_step, callback_step, notifying_step, request_step, vacating_step, triggering_step, deferred_step}
 use Rattle.tree_specs.specs.Promises.Orderly.{has_state_from, is_hook}
 use Rattle.tree_specs.specs.Promises.Grounded.{IsTurn, may_fire, may_fire_row}
 use Rattle.tree_specs.specs.Invariants.Sound.{ValidAt, claims}
@@ -108,7 +107,7 @@ request-no-hook _ h = refl
 going-not : (p : Pool) (x : Obj) → NotesHold None p → is_request_row (row_of p.rows x) ≡ true → IsInProgress p x → (k : ℕ) → 2 ≤ k → IsFrom k (note_of p.requests x) → ⊥
 going-not p x h row going k l from = each (note_of p.requests x) refl
   where
-    states : (s : State) → refusals.in_state x is_in_progress (Some (record { state = s; error = 0; callback = None; deferred = false; cleanup = 0; cleaned = 0; cancel = 0; child = x })) ≡ [] → k ≤ state_number s → ⊥
+    states : (s : State) → refusals.in_state x is_in_progress (Some (record { state = s; error = 0; callback = None; deferred = None; cleanup = 0; cleaned = 0; cancel = 0; child = x })) ≡ [] → k ≤ state_number s → ⊥
     states state.InProgress e m = absurd (omega arith)
     states _ e m = cc
 
@@ -264,18 +263,24 @@ module _ (scenes : List Scene) (b : Option CallStart) (ws : List NotedWork) (p :
   notifying-fine : (x : Obj) (errand : Errand) → AtRequest (request.Notifying x errand)
   notifying-fine x errand whole known = each (note_of p.requests x)
     where
-      q : Pool
-      q = schedule (renote p x not_deferring) x first_context
-
       back : (o : Option Handler) → FineBy scenes (frame.Request (request.Notifying x errand)) b p (callback_step x errand o p) ws
       back None = over (request.Notifying x errand) errand p (later-same p) known
       back (Some handler) = goes (request.Notifying x errand) (request.Calling what.Callback x handler errand) p (later-same p) tt known
 
+      to : (q : Pool) → q ≡ record (renote p x not_deferring) { soon = q.soon } → FineBy scenes (frame.Request (request.Notifying x errand)) b p (over_step errand q) ws
+      to q is = subst (λ (z : Pool). FineBy scenes (frame.Request (request.Notifying x errand)) b p (over_step errand z) ws) (sym is)
+          (let r : Pool = record (renote p x not_deferring) { soon = q.soon } in
+          over (request.Notifying x errand) errand r (later-noted p r refl (omega arith) (states-renoted not_deferring p r x refl (λ m e. omega arith))) known)
+
+      deferred : (o : Option Obj) (callback : Option Handler) → FineBy scenes (frame.Request (request.Notifying x errand)) b p (deferred_step x errand o callback p) ws
+      deferred None callback = back callback
+      deferred (Some c) callback = by_test (is_usable p.rows c)
+          (λ t. rw t (to (schedule (renote p x not_deferring) x c) refl))
+          (λ t. rw t (to (renote p x not_deferring) refl))
+
       each : (o : Option Note) → FineBy scenes (frame.Request (request.Notifying x errand)) b p (notifying_step x errand o p) ws
       each None = over (request.Notifying x errand) errand p (later-same p) known
-      each (Some n) = by_test n.deferred
-          (λ t. rw t (over (request.Notifying x errand) errand q (later-noted p q refl (omega arith) (states-renoted not_deferring p q x refl (λ m e. omega arith))) known))
-          (λ t. rw t (back n.callback))
+      each (Some n) = deferred n.deferred n.callback
 
   vacating-fine : (q : Obj) → AtRequest (request.Vacating q)
   vacating-fine q whole known = each (head_of p.queues q)

@@ -345,14 +345,19 @@ notifying-turn : (n : ℕ) (x : Obj) (errand : Errand) (b : Option CallStart) (p
     → Below (Turn n (frame.Request (request.Notifying x errand)) b (request_step (request.Notifying x errand) p) p is) (ends_as answer.Heard (notifying (suc n) x errand) p is)
 notifying-turn n x errand b p is = each (note_of p.requests x) refl
   where
-    back : (note : Note) (o : Option Handler) → note.callback ≡ o → note.deferred ≡ false → note_of p.requests x ≡ Some note
+    back : (note : Note) (o : Option Handler) → note.callback ≡ o → note.deferred ≡ None → note_of p.requests x ≡ Some note
         → Below (Turn n (frame.Request (request.Notifying x errand)) b (request_step (request.Notifying x errand) p) p is) (ends_as answer.Heard (notifying (suc n) x errand) p is)
     back note None c t e = rw (e, t, c) (inr refl)
     back note (Some handler) c t e = rw (e, t, c) (inr refl)
 
+    deferred : (note : Note) (o : Option Obj) → note.deferred ≡ o → note_of p.requests x ≡ Some note
+        → Below (Turn n (frame.Request (request.Notifying x errand)) b (request_step (request.Notifying x errand) p) p is) (ends_as answer.Heard (notifying (suc n) x errand) p is)
+    deferred note None t e = back note note.callback refl t e
+    deferred note (Some c) t e = rw (e, t) (inr refl)
+
     each : (o : Option Note) → note_of p.requests x ≡ o → Below (Turn n (frame.Request (request.Notifying x errand)) b (request_step (request.Notifying x errand) p) p is) (ends_as answer.Heard (notifying (suc n) x errand) p is)
     each None e = rw e (inr refl)
-    each (Some note) e = by_test note.deferred (λ t. rw (e, t) (inr refl)) (λ t. back note note.callback refl t e)
+    each (Some note) e = deferred note note.deferred refl e
 
 called-turn : (n : ℕ) (what : What) (x : Obj) (handler : Handler) (errand : Errand) (b : Option CallStart) (p : Pool) (is : List Input)
     → Below (Turn n (frame.Request (request.Called what x handler errand)) b (request_step (request.Called what x handler errand) p) p is) (ends_as answer.Heard (called (suc n) what x handler errand) p is)

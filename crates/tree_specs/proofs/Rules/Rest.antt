@@ -1,9 +1,8 @@
 -- The laws of the story still to come.
 use Rattle.tree_specs.specs.declared.object.Obj.{Obj}
 use Rattle.tree_specs.specs.declared.frame.TurnFrame.TheVariants.{Closing}
-use Rattle.tree_specs.specs.Machine.Table.{closing_step, parting_step}
+use Rattle.tree_specs.specs.Machine.Table.{closing_step, parting_step, deferred_step}
 use Rattle.tree_specs.specs.Calls.Refusals.{is_doomed}
-use Rattle.tree_specs.specs.Words.Objects.{first_context}
 use Rattle.std.proofs.Common.{◌≡◌, ℕ, suc, zero, ◌+◌, ◌*◌, ◌<◌, ◌≤◌, List, [], ◌∷◌, length, Bool, true, false, Option, Some, None, refl, sym, ◌∙◌, ap, subst, arith}
 use Rattle.step_machine.specs.Machine.{Move, Outcome, State, silent, tell, given, asks, leads, rest, walk, items as told_by}
 use Rattle.step_machine.specs.Machine.{Move as Do}
@@ -21,14 +20,13 @@ use Rattle.tree_specs.specs.declared.handler.Handler.{Handler}
 use Rattle.tree_specs.specs.declared.question.Ask.TheVariants.{Quiet, Clock, Wait}
 use Rattle.tree_specs.specs.Events.Coming.{handler_for, goes_after}
 use Rattle.tree_specs.proofs.Invariants.Turning.{Passes, Pass, Serve, look-passes, Trigger}
-use Rattle.tree_specs.proofs.Tree.Numbered.{by_test}
 use Rattle.tree_specs.specs.declared.call.Call.TheVariants as call
 use Rattle.tree_specs.specs.declared.request.Note.{Note}
 use Rattle.tree_specs.specs.declared.frame.Errand.{Errand}
 use Rattle.tree_specs.specs.declared.frame.Errand.TheVariants.{Receive}
 use Rattle.tree_specs.specs.declared.frame.RequestFrame.{RequestFrame}
 use Rattle.tree_specs.specs.declared.frame.RequestFrame.TheVariants as request
-use Rattle.tree_specs.specs.Events.Requests.{note_of, is_unreceived, cleanup_in, cancel_in, not_deferring}
+use Rattle.tree_specs.specs.Events.Requests.{note_of, is_unreceived, cleanup_in, cancel_in}
 use Rattle.tree_specs.specs.declared.frame.OutsideFrame.{OutsideFrame}
 use Rattle.tree_specs.specs.declared.frame.OutsideFrame.TheVariants.{Reaching}
 use Rattle.tree_specs.specs.declared.watch.Watch.{Watch}
@@ -39,7 +37,7 @@ use Rattle.tree_specs.specs.declared.free_step.FreeStep.{FreeStep}
 use Rattle.tree_specs.specs.declared.event.Event.{Event}
 use Rattle.tree_specs.specs.declared.call.Call.{Call}
 use Rattle.tree_specs.specs.declared.question.Ask.{Ask}
-use Rattle.tree_specs.specs.Tree.Pool.{Pool, schedule, renote, run_queue}
+use Rattle.tree_specs.specs.Tree.Pool.{Pool, run_queue}
 use Rattle.tree_specs.specs.Rules.Items.{Item, IsQuestion}
 use Rattle.tree_specs.specs.Rules.Items.Item.{Asked}
 use Rattle.tree_specs.specs.Calls.Plans.{Plan, planned, plan, unless_refused}
@@ -47,7 +45,7 @@ use Rattle.tree_specs.specs.Calls.Plans.Plan.{Does, Frees, Unlinks, Empties, Ask
 use Rattle.tree_specs.specs.Rules.Story.{turns}
 use Rattle.tree_specs.specs.Calls.Refusals.{Check}
 use Rattle.tree_specs.specs.Machine.FreeTable.{free_step}
-use Rattle.tree_specs.specs.Machine.Table.{Step, call_step, turning_step, starting_step, handled_step, turn_step, outside_step, over_step, cancelling_step, cleaning_step, release_object, cleaned_step, callback_step, notifying_step, receiving_step, request_step, table, step, event_of, announced, plan_step, lifted, taken, vacating_step, triggering_step}
+use Rattle.tree_specs.specs.Machine.Table.{Step, call_step, turning_step, starting_step, handled_step, turn_step, outside_step, cancelling_step, cleaning_step, release_object, cleaned_step, callback_step, notifying_step, receiving_step, request_step, table, step, event_of, announced, plan_step, lifted, taken, vacating_step, triggering_step}
 use Rattle.tree_specs.specs.Invariants.Sound.{Sound, Rests}
 use Rattle.tree_specs.specs.Invariants.Noted.{Noted}
 use Rattle.tree_specs.specs.Invariants.Measure.{cost}
@@ -339,11 +337,13 @@ work-asks (request.Notifying x errand) p q i g e = each (note_of p.requests x) e
     back None e = cc
     back (Some handler) e = cc
 
+    deferred : (o : Option Obj) (callback : Option Handler) → deferred_step x errand o callback p ≡ Do.Wait i g q → ⊥
+    deferred None callback e = back callback e
+    deferred (Some c) callback e = cc
+
     each : (o : Option Note) → notifying_step x errand o p ≡ Do.Wait i g q → ⊥
     each None e = cc
-    each (Some n) e = by_test n.deferred
-        (λ t. let e' : over_step errand (schedule (renote p x not_deferring) x first_context) ≡ Do.Wait i g q = rw t at e in cc)
-        (λ t. let e' : callback_step x errand n.callback p ≡ Do.Wait i g q = rw t at e in back n.callback e')
+    each (Some n) e = deferred n.deferred n.callback e
 work-asks (request.Vacating x) p q i g e = each (head_of p.queues x) e
   where
     each : (o : Option Head) → vacating_step x o (run_queue p x false) ≡ Do.Wait i g q → ⊥

@@ -35,7 +35,7 @@ use Rattle.tree_specs.proofs.Rules.Rest.{rest-enough, walk-whole, not-short, end
 
 -- nothing waits at the beginning
 pub none-await : (first : ℕ) → Awaits (empty first)
-none-await first = record { events = λ w x h. absurd (none w x h); handlers = λ x e. refl; distinct = tt; watched = λ fd h. cc }
+none-await first = record { events = λ w x h. absurd (none w x h); handlers = λ x e. refl; distinct = tt; watched = λ fd h. cc; contexts = record { soon = λ c h. cc; times = λ c h. cc; ring = λ c h. cc } }
   where
     none : (w : What) (x : Obj) → waits w (empty first) x ≡ true → ⊥
     none Immediate x h = cc

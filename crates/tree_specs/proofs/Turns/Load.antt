@@ -3,8 +3,8 @@ use Rattle.std.proofs.Common.{true}
 use Rattle.tree_specs.proofs.Invariants.Changes.{turning-row}
 use Rattle.tree_specs.specs.Invariants.Sound.{is_at_turn_mark, IsTurning}
 use Rattle.tree_specs.specs.Calls.Refusals.{is_doomed}
-use Rattle.tree_specs.specs.Machine.Table.{closing_step}
-use Rattle.tree_specs.specs.Tree.Pool.{exit}
+use Rattle.tree_specs.specs.Machine.Table.{closing_step, deferred_step}
+use Rattle.tree_specs.specs.Tree.Pool.{exit, is_usable}
 use Rattle.tree_specs.specs.declared.frame.TurnFrame.TheVariants.{Parting}
 use Rattle.tree_specs.specs.Calls.Passed.{IsUsable}
 use Rattle.tree_specs.specs.declared.kind.Kind.{Kind}
@@ -376,11 +376,15 @@ module _ (fs : List Frame) (p : Pool) (k : ℕ) where
 
   notifying-placed : (x : Obj) (errand : Errand) → IsStacked (frame.Request (request.Notifying x errand)) fs → IsPaidFor (frame.Request (request.Notifying x errand)) fs p → (o : Option Note) → Placed (notifying_step x errand o p) fs k
   notifying-placed x errand b l None = (reseat-work (request.Notifying x errand) _ fs b, l)
-  notifying-placed x errand b l (Some n) = by_test n.deferred (λ t. rw t (reseat-work (request.Notifying x errand) _ fs b, l)) (λ t. rw t (back n.callback))
+  notifying-placed x errand b l (Some n) = deferred n.deferred
     where
       back : (o : Option Handler) → Placed (callback_step x errand o p) fs k
       back None = (reseat-work (request.Notifying x errand) _ fs b, l)
       back (Some handler) = (reseat-work (request.Notifying x errand) _ fs b, l)
+
+      deferred : (o : Option Obj) → Placed (deferred_step x errand o n.callback p) fs k
+      deferred None = back n.callback
+      deferred (Some c) = by_test (is_usable p.rows c) (λ t. rw t (reseat-work (request.Notifying x errand) _ fs b, l)) (λ t. rw t (reseat-work (request.Notifying x errand) _ fs b, l))
 
   cancelling-placed : (x : Obj) → IsStacked (frame.Request (request.Cancelling x)) fs → IsPaidFor (frame.Request (request.Cancelling x)) fs p → (o : Option Handler) → Placed (cancelling_step x o p) fs k
   cancelling-placed x b l None = (reseat-work (request.Cancelling x) _ fs b, l)
