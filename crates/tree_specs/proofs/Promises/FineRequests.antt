@@ -1,6 +1,6 @@
 -- Each step of a request's work, and of a free that waits for it, tells what is fine.
 use Rattle.tree_specs.specs.Promises.Grounded.{InContext}
-use Rattle.std.proofs.Common.{◌≡◌, ℕ, ◌≤◌, ◌<◌, List, [], ◌∷◌, ◌++◌, Option, Some, None, true, false, map, refl, ◌∙◌, arith}
+use Rattle.std.proofs.Common.{◌≡◌, ℕ, ◌≤◌, ◌<◌, List, [], ◌∷◌, ◌++◌, Option, Some, None, true, false, map, refl, ◌∙◌, arith, subst, sym}
 use Rattle.std.specs.Prelude.{not}
 use Rattle.std.specs.List.{list_any}
 use Rattle.step_machine.specs.Machine.{Move as Do}
