@@ -1,16 +1,5 @@
 -- The stated number of turns is above the measure at every moment, and each work stands where it may.
-use Rattle.std.proofs.Common.{true}
-use Rattle.tree_specs.proofs.Invariants.Changes.{turning-row}
-use Rattle.tree_specs.specs.Invariants.Sound.{is_at_turn_mark, IsTurning}
-use Rattle.tree_specs.specs.Calls.Refusals.{is_doomed}
-use Rattle.tree_specs.specs.Machine.Table.{closing_step, deferred_step}
-use Rattle.tree_specs.specs.Tree.Pool.{exit, is_usable}
-use Rattle.tree_specs.specs.declared.frame.TurnFrame.TheVariants.{Parting}
-use Rattle.tree_specs.specs.Calls.Passed.{IsUsable}
-use Rattle.tree_specs.specs.declared.kind.Kind.{Kind}
-use Rattle.tree_specs.specs.Machine.Profiles.{InHandler}
-use Rattle.tree_specs.specs.Calls.Plans.Change.{Enter}
-use Rattle.tree_specs.specs.Machine.Profiles.{InRun, InHandler, InLoop}
+use Rattle.tree_specs.specs.Machine.Profiles.{InHandler, InRun, InLoop}
 use Rattle.tree_specs.specs.declared.event.Event.{Event}
 use Rattle.tree_specs.specs.declared.event.Event.TheVariants.{Unreferenced}
 use Rattle.tree_specs.specs.declared.occasion.Occasion.{Occasion}
@@ -18,9 +7,9 @@ use Rattle.tree_specs.specs.Events.Rotation.{closes_with}
 use Rattle.tree_specs.specs.Rules.Items.Item.{Told}
 use Rattle.std.specs.Prelude.{unwrap_or}
 use Rattle.tree_specs.proofs.Tree.Referring.{newest-refers, newest-of-refers}
-use Rattle.tree_specs.proofs.Calls.Plans.{MayWork, May, may-planned}
+use Rattle.tree_specs.proofs.Calls.Plans.{MayWork, May, may-planned-at}
 use Rattle.tree_specs.proofs.Calls.Changes.{MayDo, follows}
-use Rattle.tree_specs.specs.Calls.Plans.{Change, Plan, planned, changed_by}
+use Rattle.tree_specs.specs.Calls.Plans.{Change, Plan, planned, changed_by, planned_at}
 use Rattle.tree_specs.specs.declared.call.Call.TheVariants as call
 use Rattle.tree_specs.specs.declared.request.Note.{Note}
 use Rattle.tree_specs.specs.declared.request.State.TheVariants.{TimedOut}
@@ -29,10 +18,12 @@ use Rattle.tree_specs.specs.declared.frame.Errand.TheVariants.{Finish, Notify, R
 use Rattle.tree_specs.specs.declared.frame.RequestFrame.{RequestFrame}
 use Rattle.tree_specs.specs.declared.frame.RequestFrame.TheVariants as request
 use Rattle.tree_specs.specs.Events.Requests.{note_of, is_unreceived, cleanup_in, cancel_in}
-use Rattle.tree_specs.specs.Calls.Refusals.{is_request, is_queue}
+use Rattle.tree_specs.specs.Calls.Refusals.{is_doomed, is_request, is_queue}
 use Rattle.tree_specs.specs.Calls.Plans.Plan.{Does, Frees, Unlinks, Empties, Asks, Turns, Works}
+use Rattle.tree_specs.specs.Calls.Plans.Change.{Enter}
+use Rattle.tree_specs.specs.Calls.Passed.{IsUsable}
 use Rattle.tree_specs.specs.Tree.Targets.{newest_ref, is_context}
-use Rattle.std.proofs.Common.{◌≡◌, ℕ, suc, zero, ◌+◌, ◌≤◌, List, [], Option, Some, None, nat_eq, refl, sym, ◌∙◌, ap, subst, arith, false}
+use Rattle.std.proofs.Common.{true, ◌≡◌, ℕ, suc, zero, ◌+◌, ◌≤◌, List, [], Option, Some, None, nat_eq, refl, sym, ◌∙◌, ap, subst, arith, false}
 use Rattle.step_machine.specs.Machine.{Move as Do}
 use Rattle.tree_specs.specs.declared.object.Obj.{Obj}
 use Rattle.tree_specs.specs.declared.object.Owner.{Owner}
@@ -47,7 +38,7 @@ use Rattle.tree_specs.specs.declared.frame.Frame.{Frame}
 use Rattle.tree_specs.specs.declared.frame.Frame.TheVariants as frame
 use Rattle.tree_specs.specs.declared.frame.CallFrame.TheVariants.{Asking, Doing, Awaiting, Turning, Requesting, Announcing, Telling, Returning}
 use Rattle.tree_specs.specs.declared.frame.TurnFrame.{TurnFrame}
-use Rattle.tree_specs.specs.declared.frame.TurnFrame.TheVariants.{Taking, Timing, Timed, Polling, Starting, Firing, Handling, Handled, Clearing, Serving, Closing}
+use Rattle.tree_specs.specs.declared.frame.TurnFrame.TheVariants.{Parting, Taking, Timing, Timed, Polling, Starting, Firing, Handling, Handled, Clearing, Serving, Closing}
 use Rattle.tree_specs.specs.declared.handler.Handler.{Handler}
 use Rattle.tree_specs.specs.declared.moment.What.{What}
 use Rattle.tree_specs.specs.declared.reply.Reply.TheVariants as reply
@@ -63,19 +54,20 @@ use Rattle.tree_specs.specs.declared.frame.OutsideFrame.TheVariants.{Reaching, O
 use Rattle.tree_specs.specs.declared.frame.Answer.TheVariants.{Freed, Returned, Turned, Heard as HeardBy}
 use Rattle.tree_specs.specs.declared.free_step.FreeReply.{FreeReply}
 use Rattle.tree_specs.specs.declared.free_step.FreeReply.TheVariants.{Ok, Running, Refused, Held}
-use Rattle.tree_specs.specs.Tree.Pool.{Pool, row_of, is_below, owner_of, first_kid, changed, left_row, marked_row, hooked_row, target_at, noted_owner, newest_ref_of, is_inside, remove, detach, doom, open_descriptor, run_queue}
+use Rattle.tree_specs.specs.declared.kind.Kind.{Kind}
+use Rattle.tree_specs.specs.Tree.Pool.{exit, is_usable, Pool, row_of, is_below, owner_of, first_kid, changed, left_row, marked_row, hooked_row, target_at, noted_owner, newest_ref_of, is_inside, remove, detach, doom, open_descriptor, run_queue}
 use Rattle.tree_specs.specs.Tree.Heirs.{heir}
 use Rattle.tree_specs.specs.Rules.Items.{Item}
 use Rattle.tree_specs.specs.Machine.FreeTable.{begin_quiet, begin_step, judge_step, last_step, loop_step, hand_on_step, child_step, refs_step, unlink_step, release_step}
-use Rattle.tree_specs.specs.Machine.Table.{Step, step, cancelling_step, cleaning_step, release_object, cleaned_step, callback_step, notifying_step, request_step, turning_step, turn_step, outside_step, starting_step, lifted, announced, closed_event, plan_step, vacating_step, triggering_step}
-use Rattle.tree_specs.specs.Invariants.Sound.{phase_of, phases, claims, Sound, Refers, IsQuietRow}
+use Rattle.tree_specs.specs.Machine.Table.{closing_step, deferred_step, Step, step, cancelling_step, cleaning_step, release_object, cleaned_step, callback_step, notifying_step, request_step, turning_step, turn_step, outside_step, starting_step, lifted, announced, closed_event, plan_step, vacating_step, triggering_step}
+use Rattle.tree_specs.specs.Invariants.Sound.{is_at_turn_mark, IsTurning, phase_of, phases, claims, Sound, Refers, IsQuietRow}
 use Rattle.tree_specs.proofs.Tree.Numbered.{by_test}
 use Rattle.tree_specs.proofs.Calls.Checks.{Heard, HeardCall, HeardReturn, heard-leads, Reached, ReachedOpening, ReachedHearing, reached-leads}
 use Rattle.tree_specs.specs.Rules.Answers.{later}
 use Rattle.tree_specs.specs.Invariants.Consistent.{IsStacked, innermost_size, sizes, mark_deposit, deposit, IsPaidFor}
 use Rattle.tree_specs.specs.Tree.Inside.{total}
 use Rattle.tree_specs.proofs.Tree.Rows.{total-without, total-placed, total-changed}
-use Rattle.tree_specs.proofs.Invariants.Changes.{dying-row, running-row, handling-row, claim-here, heir-placed}
+use Rattle.tree_specs.proofs.Invariants.Changes.{turning-row, dying-row, running-row, handling-row, claim-here, heir-placed}
 use Rattle.tree_specs.proofs.Turns.Lowering.{total-kept}
 use Rattle.tree_specs.proofs.Turns.Seats.{Placed, reseat, reseat-free, reseat-turn, reseat-work, quiet-later, routine-later, not-both, reseat-told, turn-least, over}
 use Rattle.tree_specs.specs.Events.Queues.{Head, head_of, next_of}
@@ -421,7 +413,7 @@ request-placed (request.Over r) fs p k s b l = over (HeardBy r) (frame.Request (
 
 pub placed-kept : (f : Frame) (fs : List Frame) (p : Pool) (k : ℕ) → Sound f fs p → IsStacked f fs → IsPaidFor f fs p → Placed (step f p) fs k
 placed-kept (frame.Call (Asking q)) fs p k s b l = asking-placed q fs p k b l
-placed-kept (frame.Call (Doing q c)) fs p k s b l = planned-placed q c fs p k b l (planned p c) (may-planned (frame.Call (Doing q c)) fs p s c)
+placed-kept (frame.Call (Doing q c)) fs p k s b l = planned-placed q c fs p k b l (planned_at q p c) (may-planned-at (frame.Call (Doing q c)) fs p s q c)
 placed-kept (frame.Call (Announcing q notice r)) fs p k s b l = (reseat (frame.Call (Announcing q notice r)) (frame.Call (Telling q r)) fs (λ z. z) (λ z. z) (λ z. z) (λ z. z) (λ z. z) b, l)
 placed-kept (frame.Call (Telling q r)) fs p k s b l = (reseat (frame.Call (Telling q r)) (frame.Call (Asking q)) fs (λ z. z) (λ z. z) (λ z. z) (λ z. z) (λ z. z) b, l)
 placed-kept (frame.Call (Returning v)) fs p k s b l = over (Returned v) (frame.Call (Returning v)) fs p k s.waiting b l
