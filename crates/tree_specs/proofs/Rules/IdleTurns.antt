@@ -254,9 +254,11 @@ replies n p _ left stays (Untimed ready soon none nobody) = each ready nobody
         (closed_by p.turning p, scene_of (Asked (ask.Wait wait_limit)) p ∷ [], rw (soon, none, once, nobody.none) (ap (tell (scene_of (Asked (ask.Wait wait_limit)) p)) (closing-is (suc (suc (suc (suc n)))) 0 p left stays)))
     each (w ∷ ws) nobody = (closed_by p.turning p, scene_of (Asked (ask.Wait wait_limit)) p ∷ [], rw (soon, none, nobody.sound, nobody.none) (ap (tell (scene_of (Asked (ask.Wait wait_limit)) p)) (closing-is (suc (suc (suc (suc n)))) 0 p left stays)))
 replies n p _ left stays (Unwatched d now w ready soon due early nobody) =
-    let t = early-tests d now early in
-    (closed_by p.turning p, scene_of (Asked ask.Clock) p ∷ scene_of (Asked (ask.Wait (d.time - now))) p ∷ [],
-    rw (soon, due, t.0, t.1, due, t.2, nobody.sound, nobody.none) (ap (λ (o : Outcome ℕ Pool Input Scene). tell (scene_of (Asked ask.Clock) p) (tell (scene_of (Asked (ask.Wait (d.time - now))) p) o)) (closing-is (suc (suc n)) 0 p left stays)))
+    let t = early-tests d now early in (
+      closed_by p.turning p,
+      scene_of (Asked ask.Clock) p ∷ scene_of (Asked (ask.Wait (d.time - now))) p ∷ [],
+      rw (soon, due, t.0, t.1, due, t.2, nobody.sound, nobody.none) (ap (λ (o : Outcome ℕ Pool Input Scene). tell (scene_of (Asked ask.Clock) p) (tell (scene_of (Asked (ask.Wait (d.time - now))) p) o)) (closing-is (suc (suc n)) 0 p left stays)),
+    )
 replies n p _ left stays (Early d now later soon due early before) =
     let t = early-tests d now early in
     let u = early-tests d later before in
