@@ -50,7 +50,6 @@ use Rattle.tree_specs.proofs.Calls.Plans.{may-planned-at}
 use Rattle.tree_specs.specs.Machine.Profiles.{InHandler}
 use Rattle.tree_specs.specs.declared.occasion.Occasion.{Occasion}
 use Rattle.tree_specs.specs.Machine.FreeTable.{free_step}
-use Rattle.tree_specs.specs.Words.Objects.{same}
 use Rattle.step_machine.specs.Machine.{Move as Do}
 use Rattle.tree_specs.proofs.Invariants.KeptQueueCalls.{goes, PlanKeeps, plan-keeps, planned-queued}
 
