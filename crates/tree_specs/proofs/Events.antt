@@ -9,5 +9,7 @@ pub mod LiveContexts
 pub mod RotationLaws
 pub mod DescriptorLaws
 pub mod Awaiting
+pub mod AwaitingLists
+pub mod AwaitingFrees
 pub mod AwaitingSteps
 pub mod AwaitingStories

@@ -1,58 +1,43 @@
 -- What a change asks for, and what it leaves so.
-use Rattle.tree_specs.proofs.Tree.Rows.{row_of-changed-same}
-use Rattle.tree_specs.specs.Tree.Pool.{set_mark, is_context_row, is_usable_row}
-use Rattle.std.proofs.Common.{inr}
-use Rattle.std.proofs.Common.{[]}
-use Rattle.std.proofs.Common.{◌∙◌, [], ◌++◌}
-use Rattle.tree_specs.proofs.Tree.Numbered.{by_test}
-use Rattle.tree_specs.specs.declared.row.Mark.{Mark}
-use Rattle.tree_specs.specs.declared.row.Mark.TheVariants as mark
-use Rattle.tree_specs.specs.Calls.Refusals.{is_doomed_mark, is_referable}
-use Rattle.tree_specs.specs.Words.Objects.{first_context}
-use Rattle.tree_specs.specs.Invariants.Measure.{mark_weight}
-use Rattle.tree_specs.specs.Invariants.Consistent.{mark_deposit}
-use Rattle.tree_specs.specs.Invariants.Sound.{phase_of, phases, claims, IsLive, IsReferable}
-use Rattle.tree_specs.specs.Machine.Profiles.{Phase}
-use Rattle.tree_specs.specs.Tree.Pool.{enter, marked_row}
-use Rattle.tree_specs.proofs.Invariants.Changes.{changed-sound, live-owned, shape-of, marks-place}
-use Rattle.tree_specs.proofs.Tree.Referring.{unreferred}
-use Rattle.tree_specs.proofs.Promises.Later.{later-marked}
-use Rattle.tree_specs.specs.Calls.Plans.{Enter}
-use Rattle.tree_specs.specs.Calls.Passed.{IsUsable, First, Stays}
-use Rattle.std.proofs.Common.{ℕ, ◌≡◌, ◌≤◌, ◌+◌, ◌*◌, List, length, Some, None, true, false, refl, ap, arith, Option, subst, sym}
+use Rattle.std.proofs.Common.{inr, [], ◌∙◌, ◌++◌, ℕ, ◌≡◌, ◌≤◌, ◌+◌, ◌*◌, List, length, Some, None, true, false, refl, ap, arith, Option, subst, sym}
 use Rattle.std.specs.Prelude.{is_some, codes, not}
 use Rattle.tree_specs.specs.declared.object.Obj.{Obj}
 use Rattle.tree_specs.specs.declared.object.Owner.{Owner}
 use Rattle.tree_specs.specs.declared.object.Owner.TheVariants.{Of}
 use Rattle.tree_specs.specs.declared.kind.Kind.{Kind}
 use Rattle.tree_specs.specs.declared.kind.Kind.TheVariants as kind
-use Rattle.tree_specs.specs.Words.Objects.{same}
+use Rattle.tree_specs.specs.Words.Objects.{first_context, same}
 use Rattle.tree_specs.specs.declared.row.Row.{Row}
+use Rattle.tree_specs.specs.declared.row.Mark.{Mark}
+use Rattle.tree_specs.specs.declared.row.Mark.TheVariants as mark
 use Rattle.tree_specs.specs.declared.watch.Watch.{Watch}
 use Rattle.tree_specs.specs.declared.frame.Frame.{Frame}
-use Rattle.tree_specs.specs.Tree.Pool.{Pool, row_of, is_owner, new_row, add, note, add_request, add_queue, add_entry}
+use Rattle.tree_specs.specs.Tree.Pool.{set_mark, is_context_row, is_usable_row, enter, marked_row, Pool, row_of, is_owner, new_row, add, note, add_request, add_queue, add_entry}
 use Rattle.tree_specs.specs.Tree.Targets.{target_of, is_reference, is_context, is_usable_mark}
 use Rattle.tree_specs.specs.Tree.Inside.{total}
-use Rattle.tree_specs.specs.Invariants.Measure.{weight}
-use Rattle.tree_specs.specs.Invariants.Consistent.{deposit, mark_deposit}
-use Rattle.tree_specs.specs.Calls.Refusals.{is_open, is_request, is_request_row, is_queue_row}
+use Rattle.tree_specs.specs.Invariants.Measure.{mark_weight, weight}
+use Rattle.tree_specs.specs.Invariants.Consistent.{mark_deposit, deposit}
+use Rattle.tree_specs.specs.Calls.Refusals.{is_doomed_mark, is_referable, is_open, is_request, is_request_row, is_queue_row}
 use Rattle.tree_specs.specs.declared.moment.What.TheVariants as what
 use Rattle.tree_specs.specs.Events.Handlers.{handler_of}
 use Rattle.tree_specs.specs.Events.Rotation.{is_watched}
 use Rattle.tree_specs.specs.Invariants.Awaiting.{MayCome, waits_as_row, is_event_row, IsHandled}
-use Rattle.tree_specs.specs.Calls.Plans.{Change, changed_by}
+use Rattle.tree_specs.specs.Calls.Plans.{Enter, Change, changed_by}
 use Rattle.tree_specs.specs.Calls.Plans.Change.{Nothing, Edit, Add, Place, Handle, Schedule, Arm, Watches, Rewatch, Close, TakeNumber, AddRequest, Renotes, AddQueue, AddEntry, LooksAt, Then}
-use Rattle.tree_specs.specs.Invariants.Sound.{IsReferable, MayBePlaced, Rests, Sound, claim}
-use Rattle.tree_specs.proofs.Tree.Numbered.{same-equal}
-use Rattle.tree_specs.proofs.Tree.Rows.{total-placed}
+use Rattle.tree_specs.specs.Calls.Passed.{IsUsable, First, Stays}
+use Rattle.tree_specs.specs.Invariants.Sound.{phase_of, phases, claims, IsLive, IsReferable, MayBePlaced, Rests, Sound, claim}
+use Rattle.tree_specs.proofs.Tree.Numbered.{by_test, same-equal}
+use Rattle.tree_specs.proofs.Tree.Rows.{row_of-changed-same, total-placed}
 use Rattle.tree_specs.proofs.Tree.Rooted.{KeepsPlace}
-use Rattle.tree_specs.proofs.Invariants.Changes.{goes_on, waiting-sound, numbered-sound, nobody, unmarked-sound, placed-sound, new-sound}
+use Rattle.tree_specs.proofs.Tree.Referring.{unreferred}
+use Rattle.tree_specs.proofs.Invariants.Changes.{changed-sound, live-owned, shape-of, marks-place, goes_on, waiting-sound, numbered-sound, nobody, unmarked-sound, placed-sound, new-sound}
 use Rattle.tree_specs.proofs.Turns.FallingFrees.{length-placed}
 use Rattle.tree_specs.proofs.Turns.Lowering.{total-kept, length-changed}
-use Rattle.tree_specs.proofs.Promises.Later.{Later, later-still, later-same, later-changed, later-placed, later-added, later-waiting, later-noted, states-renoted, states-noted}
+use Rattle.tree_specs.proofs.Promises.Later.{later-marked, Later, later-still, later-same, later-changed, later-placed, later-added, later-waiting, later-noted, states-renoted, states-noted}
 use Rattle.tree_specs.specs.declared.moment.What.{What}
 use Rattle.tree_specs.specs.declared.request.Note.{Note}
 use Rattle.tree_specs.specs.Events.Requests.{Notes as RequestNotes, renoted, new_note}
+use Rattle.tree_specs.specs.Machine.Profiles.{Phase}
 use Rattle.tree_specs.proofs.Events.NoteLaws.{note_weight-most, renoted-lighter, total-lighter, total-unowned}
 
 -- ---- what a change asks for

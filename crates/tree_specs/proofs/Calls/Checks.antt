@@ -1,10 +1,4 @@
 -- What it means that no refusal applies, and that an input fits.
-use Rattle.tree_specs.specs.declared.reply.Refusal.TheVariants.{Dying as IsDyingRefusal}
-use Rattle.tree_specs.specs.Calls.Refusals.{of_kind}
-use Rattle.tree_specs.specs.Words.Objects.{first_context}
-use Rattle.tree_specs.specs.Words.Objects.{same}
-use Rattle.tree_specs.specs.declared.test.Test.TheVariants.{IsContext}
-use Rattle.tree_specs.specs.Calls.Refusals.{context}
 use Rattle.std.proofs.Common.{◌≡◌, ◌≢◌, ℕ, suc, zero, arith, List, [], ◌∷◌, ◌++◌, length, Option, Some, None, Bool, true, false, refl, sym, ◌∙◌, ap, subst, ◌⊎◌, inl, inr}
 use Rattle.std.specs.Prelude.{◌+◌, ◌^◌, ◌&&◌, is_some, not, nat_lt, nat_le}
 use Rattle.std.proofs.lemmas.Bool.{eqb-true}
@@ -19,8 +13,8 @@ use Rattle.tree_specs.specs.declared.call.Call.{Call}
 use Rattle.tree_specs.specs.declared.reply.Reply.{Reply}
 use Rattle.tree_specs.specs.declared.reply.Reply.TheVariants.{Number, Bytes, No}
 use Rattle.tree_specs.specs.declared.reply.Refusal.{Refusal}
-use Rattle.tree_specs.specs.declared.reply.Refusal.TheVariants.{WrongKind, NotParent, Loop, TooBig, Full, Spent}
-use Rattle.tree_specs.specs.Words.Objects.{same_owner}
+use Rattle.tree_specs.specs.declared.reply.Refusal.TheVariants.{Dying as IsDyingRefusal, WrongKind, NotParent, Loop, TooBig, Full, Spent, Nested}
+use Rattle.tree_specs.specs.Words.Objects.{first_context, same, same_owner}
 use Rattle.tree_specs.specs.declared.question.Ask.{Ask}
 use Rattle.tree_specs.specs.declared.question.Ask.TheVariants as ask
 use Rattle.tree_specs.specs.declared.question.Act.TheVariants as act
@@ -33,11 +27,11 @@ use Rattle.tree_specs.specs.Tree.Reports.{count_refs}
 use Rattle.tree_specs.specs.Calls.Given.{Given, given_to}
 use Rattle.tree_specs.specs.Calls.Given.Given.{Calls, Returns, Tells, IsReady, Opens, Answers}
 use Rattle.tree_specs.specs.declared.test.Test.{Test}
-use Rattle.tree_specs.specs.Calls.Plans.{Change, Plan, plan, planned, replies, unless_refused, frees, handed}
+use Rattle.tree_specs.specs.Calls.Plans.{Change, Plan, plan, planned, replies, unless_refused, frees, handed, planned_at}
 use Rattle.tree_specs.specs.Calls.Plans.Change.{Nothing, Place}
 use Rattle.tree_specs.specs.Calls.Plans.Plan.{Does, Works}
-use Rattle.tree_specs.specs.Calls.Refusals.{Check, tests, refusals, refuse_if, refusal_of, refused, size_limit, row_limit, object_row, object, owner, room, apart, interested, given_by, is_running_mark, is_open}
-use Rattle.tree_specs.specs.declared.test.Test.TheVariants.{IsSmall, IsObject, IsOwner, IsPlain, IsImmediate, IsDescriptor, IsRequest, IsReferable, IsOpen, IsUnwatched, HasRoom, HasNumber, IsInProgress, IsFinished, MayFail, Fits, MayGrow, IsNotDying, IsNotDoomed, IsNotRunning, IsNotInside, IsUnheld, IsUnreferenced, IsInterested, MayGive, IsQueue, IsMovable, IsNotGoing}
+use Rattle.tree_specs.specs.Calls.Refusals.{of_kind, context, Check, tests, refusals, refuse_if, refusal_of, refused, size_limit, row_limit, object_row, object, owner, room, apart, interested, given_by, is_running_mark, is_open, is_nested}
+use Rattle.tree_specs.specs.declared.test.Test.TheVariants.{IsContext, IsSmall, IsObject, IsOwner, IsPlain, IsImmediate, IsDescriptor, IsRequest, IsReferable, IsOpen, IsUnwatched, HasRoom, HasNumber, IsInProgress, IsFinished, MayFail, Fits, MayGrow, IsNotDying, IsNotDoomed, IsNotRunning, IsNotInside, IsUnheld, IsUnreferenced, IsInterested, MayGive, IsQueue, IsMovable, IsNotGoing}
 use Rattle.tree_specs.specs.Calls.Passed.{Interest, AsOwner, AsHolder, Gives, Itself, ItsRef, IsUsable, First, Stays, Passed, AllPassed}
 use Rattle.tree_specs.specs.Invariants.Sound.{IsLive, MayBePlaced}
 use Rattle.tree_specs.specs.Words.Ranges.{is_sound_call, is_return, is_routine, is_time}
@@ -174,6 +168,10 @@ planned-by P p c passed refused = each (refusals p c) refl
     each : (check : Check) → refusals p c ≡ check → P (unless_refused check (plan p c))
     each [] none = passed (all-pass p (tests c) none)
     each (why ∷ later) e = refused (No why)
+
+-- what holds of the plan of a call, and of a nested turn's, holds where the call is given at any question
+pub planned-at-by : (P : Plan → Type 0) (q : Ask) (p : Pool) (c : Call) → P (planned p c) → (is_nested q c ≡ true → P (replies (No Nested))) → P (planned_at q p c)
+planned-at-by P q p c plan nested = by_test (is_nested q c) (λ t. rw t (nested t)) (λ t. rw t plan)
 
 -- what a plan changes is all such
 abbrev pub Makes : (Change → Type 0) → Plan → Type 0

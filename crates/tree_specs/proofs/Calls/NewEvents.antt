@@ -1,8 +1,4 @@
 -- An event that a call has watch a descriptor is a new one, and what a call has come isn't being freed.
-use Rattle.tree_specs.specs.Calls.Refusals.{is_queue_row, is_queue}
-use Rattle.tree_specs.specs.Calls.Refusals.{is_request}
-use Rattle.tree_specs.specs.declared.kind.Kind.{Kind}
-use Rattle.tree_specs.specs.declared.kind.Kind.TheVariants as kinds_of
 use Rattle.std.proofs.Common.{◌≡◌, nat_eq, [], ◌∷◌, Option, Some, None, Bool, true, false, refl, ◌∙◌}
 use Rattle.std.specs.Prelude.{not, codes}
 use Rattle.tree_specs.specs.declared.object.Obj.{Obj}
@@ -10,8 +6,6 @@ use Rattle.tree_specs.specs.declared.call.Call.{Call}
 use Rattle.tree_specs.specs.declared.call.Call.TheVariants as call
 use Rattle.tree_specs.specs.Tree.Targets.{newest_ref, is_context}
 use Rattle.tree_specs.specs.Tree.Pool.{Pool, row_of, passes, is_context_row, new_row}
-use Rattle.tree_specs.specs.Invariants.Awaiting.{is_live_context}
-use Rattle.tree_specs.proofs.Events.LiveContexts.{passed-context, live-added}
 use Rattle.tree_specs.specs.declared.request.Note.{Note}
 use Rattle.tree_specs.specs.declared.request.State.{State}
 use Rattle.tree_specs.specs.declared.request.State.TheVariants as state
@@ -19,19 +13,23 @@ use Rattle.tree_specs.specs.declared.reply.Refusal.TheVariants.{BadState}
 use Rattle.tree_specs.specs.declared.row.Row.{Row}
 use Rattle.tree_specs.specs.declared.row.Mark.{Mark}
 use Rattle.tree_specs.specs.declared.row.Mark.TheVariants.{Quiet, Asked, Busy, Doomed, Dying}
+use Rattle.tree_specs.specs.declared.kind.Kind.{Kind}
+use Rattle.tree_specs.specs.declared.kind.Kind.TheVariants as kinds_of
 use Rattle.tree_specs.specs.Words.Objects.{same}
 use Rattle.tree_specs.specs.Events.Requests.{note_of, is_noted, is_received, is_unreceived, is_in_progress, state_number}
 use Rattle.tree_specs.specs.Calls.Passed.{AllPassed}
 use Rattle.tree_specs.specs.Machine.Profiles.{InHandler, InLoop}
 use Rattle.tree_specs.specs.Invariants.Sound.{phases}
 use Rattle.tree_specs.specs.Invariants.Noted.{NotesHold}
+use Rattle.tree_specs.specs.Invariants.Awaiting.{is_live_context}
 use Rattle.tree_specs.proofs.Calls.Checks.{planned-by, Makes, frees-makes, handed-makes}
 use Rattle.tree_specs.proofs.Invariants.Notes.{settled}
 use Rattle.tree_specs.specs.Events.Rotation.{is_watching}
-use Rattle.tree_specs.specs.Calls.Refusals.{tests, refuse_if, in_state, is_finished, is_doomed_mark, is_doomed, is_request_row, is_going, is_going_mark}
+use Rattle.tree_specs.specs.Calls.Refusals.{is_queue_row, is_queue, is_request, tests, refuse_if, in_state, is_finished, is_doomed_mark, is_doomed, is_request_row, is_going, is_going_mark}
 use Rattle.tree_specs.specs.Calls.Plans.{Change, Plan, changed_by, plan, planned, gift}
 use Rattle.tree_specs.specs.Calls.Plans.Change.{Watches, Schedule, Arm, Then, LooksAt, AddEntry}
 use Rattle.tree_specs.proofs.Tree.Numbered.{by_test, same-equal}
+use Rattle.tree_specs.proofs.Events.LiveContexts.{passed-context, live-added}
 use Rattle.tree_specs.specs.Events.Queues.{runs}
 
 -- each event that a change has watch a descriptor watches none yet, and what comes soon or at a time isn't being freed; nor is

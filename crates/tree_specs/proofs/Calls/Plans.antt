@@ -1,6 +1,4 @@
 -- What a plan asks for, what its change of the rows leaves so, and that a call which isn't refused may carry out its plan.
-use Rattle.tree_specs.specs.declared.test.Test.TheVariants.{IsContext}
-use Rattle.tree_specs.specs.Calls.Passed.{IsUsable}
 use Rattle.std.proofs.Common.{nat_eq, ◌≡◌, ◌≢◌, ◌≤◌, List, [], ◌∷◌, Option, Some, None, Bool, true, false, refl, sym, ◌∙◌, subst, arith}
 use Rattle.std.specs.Prelude.{if◌then◌else◌}
 use Rattle.tree_specs.specs.declared.object.Obj.{Obj}
@@ -24,8 +22,8 @@ use Rattle.tree_specs.specs.Tree.Targets.{target_of, newest_ref}
 use Rattle.tree_specs.specs.Calls.Refusals.{tests, refusals, in_state, in_progress, is_immediate, is_request, is_request_row, is_queue, is_queue_row}
 use Rattle.tree_specs.specs.declared.moment.What.TheVariants as what
 use Rattle.tree_specs.specs.Invariants.Awaiting.{waits_as, waits_as_row, is_event, is_event_row}
-use Rattle.tree_specs.specs.declared.test.Test.TheVariants.{IsObject, IsImmediate, IsRequest, IsInProgress as IsInProgressTest, IsNotDoomed, IsQueue}
-use Rattle.tree_specs.specs.Calls.Plans.{Plan, changed_by, plan, planned, places, warns, frees, handed, gift}
+use Rattle.tree_specs.specs.declared.test.Test.TheVariants.{IsContext, IsObject, IsImmediate, IsRequest, IsInProgress as IsInProgressTest, IsNotDoomed, IsQueue}
+use Rattle.tree_specs.specs.Calls.Plans.{Plan, changed_by, plan, planned, places, warns, frees, handed, gift, planned_at}
 use Rattle.tree_specs.specs.Calls.Plans.Change.{Nothing}
 use Rattle.tree_specs.specs.Calls.Plans.Plan.{Does, Frees, Unlinks, Empties, Asks, Turns, Works}
 use Rattle.tree_specs.specs.Invariants.Sound.{IsLive, IsReferable, IsQuietRow, MayReceive, MayBePlaced, Sound}
@@ -34,9 +32,9 @@ use Rattle.tree_specs.proofs.Tree.Numbered.{by_test, same-equal, is_below-some}
 use Rattle.tree_specs.proofs.Tree.Rows.{row_of-placed-same}
 use Rattle.tree_specs.proofs.Tree.Rooted.{KeepsPlace}
 use Rattle.tree_specs.proofs.Tree.Referring.{newest-refers, newest-of-refers, refers-nothing, reference-outside, object-refers}
-use Rattle.tree_specs.specs.Calls.Passed.{Passed, AllPassed, Interest, AsOwner, AsHolder, Gives, Itself, ItsRef}
+use Rattle.tree_specs.specs.Calls.Passed.{IsUsable, Passed, AllPassed, Interest, AsOwner, AsHolder, Gives, Itself, ItsRef}
 use Rattle.tree_specs.proofs.Events.HandlerLaws.{with-own}
-use Rattle.tree_specs.proofs.Calls.Checks.{all-pass, planned-by, may-place, quiet-row}
+use Rattle.tree_specs.proofs.Calls.Checks.{all-pass, planned-by, may-place, quiet-row, planned-at-by}
 use Rattle.tree_specs.proofs.Invariants.Changes.{names-place, hooks-place, sizes-place, limits-place, nobody, owned-row}
 use Rattle.tree_specs.proofs.Invariants.KeptGivings.{referred-live}
 use Rattle.tree_specs.specs.declared.frame.Errand.{Errand}
@@ -260,3 +258,7 @@ module _ (f : Frame) (fs : List Frame) (p : Pool) (s : Sound f fs p) where
   -- and one that is refused only replies
   pub may-planned : (c : Call) → May p (planned p c)
   may-planned c = planned-by (May p) p c (each c) (λ r. (tt, omega arith, tt, omega arith))
+
+  -- wherever it is given
+  pub may-planned-at : (q : Ask) (c : Call) → May p (planned_at q p c)
+  may-planned-at q c = planned-at-by (May p) q p c (may-planned c) (λ t. (tt, omega arith, tt, omega arith))

@@ -7,14 +7,13 @@ use Rattle.tree_specs.specs.declared.object.Owner.{Owner}
 use Rattle.tree_specs.specs.declared.row.Row.{Row}
 use Rattle.tree_specs.specs.declared.row.Mark.{Mark}
 use Rattle.tree_specs.specs.declared.row.Mark.TheVariants as mark
-use Rattle.tree_specs.specs.declared.kind.Kind.{Kind}
 use Rattle.tree_specs.specs.declared.coming.Coming.{Coming}
 use Rattle.tree_specs.specs.declared.due.Due.{Due}
 use Rattle.tree_specs.specs.declared.watch.Watch.{Watch}
 use Rattle.tree_specs.specs.declared.queue.QueueEntry.{QueueEntry}
 use Rattle.tree_specs.specs.Words.Objects.{same, is_same, first_context}
 use Rattle.tree_specs.specs.Tree.Targets.{is_context, is_usable_mark}
-use Rattle.tree_specs.specs.Tree.Pool.{Pool, row_of, changed, without, new_row, place, is_usable, is_context_row, is_usable_row, put_soon, looked_at, looked_after, let_go}
+use Rattle.tree_specs.specs.Tree.Pool.{Pool, row_of, changed, without, place, is_usable, is_context_row, is_usable_row, put_soon, looked_at, looked_after, let_go}
 use Rattle.tree_specs.specs.Events.Pending.{unscheduled, scheduled, soon_without, disarmed, comes_before, put_in, armed, times_without}
 use Rattle.tree_specs.specs.Events.Queues.{Queues, Head, without_entry, entry_of, next_of}
 use Rattle.tree_specs.specs.Events.Rotation.{watch_of, watched, unwatched, rewatched, behind_all, turned_back, lost, ring_in, ring_without}
@@ -22,8 +21,8 @@ use Rattle.tree_specs.specs.Calls.Refusals.{is_doomed_mark}
 use Rattle.tree_specs.specs.Calls.Passed.{IsUsable, First, Stays}
 use Rattle.tree_specs.specs.Invariants.Sound.{MayBePlaced}
 use Rattle.tree_specs.specs.Invariants.Awaiting.{has_soon, has_times, has_watches, is_live_context_row, is_live_context, InLiveContexts}
-use Rattle.tree_specs.proofs.Tree.Numbered.{by_test, same-true, same-equal, same_or_not}
-use Rattle.tree_specs.proofs.Tree.Rows.{row_of-changed-other, row_of-changed-same, row_of-changed-none, row_of-without-other, row_of-placed-other, row_of-placed-same}
+use Rattle.tree_specs.proofs.Tree.Numbered.{by_test, same-true, same_or_not}
+use Rattle.tree_specs.proofs.Tree.Rows.{row_of-changed-other, row_of-changed-same, row_of-without-other, row_of-placed-other, row_of-placed-same}
 
 -- ---- the first that passes a test
 

@@ -1,10 +1,10 @@
 -- Which objects wait after one is put in or taken out.
 use Rattle.std.proofs.Common.{◌≡◌, ◌≢◌, ℕ, List, [], ◌∷◌, ◌++◌, true, false, refl, sym, ◌∙◌, ◌⊎◌, inl, inr}
+use Rattle.std.specs.Prelude.{Bool, not, is_some}
+use Rattle.std.specs.List.{find, filter}
 use Rattle.tree_specs.specs.declared.object.Obj.{Obj}
 use Rattle.tree_specs.specs.declared.due.Due.{Due}
 use Rattle.tree_specs.specs.declared.coming.Coming.{Coming}
-use Rattle.std.specs.Prelude.{Bool, not, is_some}
-use Rattle.std.specs.List.{find, filter}
 use Rattle.tree_specs.specs.Words.Objects.{same}
 use Rattle.tree_specs.specs.Events.Pending.{is_scheduled, unscheduled, scheduled, is_armed, disarmed, comes_before, put_in, armed, soon_without, times_in, times_without}
 use Rattle.tree_specs.proofs.Tree.Numbered.{by_test, same-true, same-equal}

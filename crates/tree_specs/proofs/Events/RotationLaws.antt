@@ -1,17 +1,16 @@
 -- Which events watch, and which descriptors are watched, after the rotation is changed; each event stands once in it, and each
 -- descriptor.
-use Rattle.tree_specs.proofs.Tree.Numbered.{same-equal}
 use Rattle.std.proofs.Common.{◌≡◌, ◌≢◌, ℕ, nat_eq, Bool, true, false, List, [], ◌∷◌, ◌++◌, Option, Some, None, is_some, refl, sym, ◌∙◌, ap, subst, ◌⊎◌, inl, inr}
 use Rattle.std.proofs.lemmas.Bool.{eqb-true, eq-eqb}
 use Rattle.std.specs.List.{find, filter}
-use Rattle.std.specs.Prelude.{not, map}
 use Rattle.std.specs.Option.{option_map}
+use Rattle.std.specs.Prelude.{not, map}
 use Rattle.tree_specs.specs.declared.object.Obj.{Obj}
 use Rattle.tree_specs.specs.declared.watch.Watch.{Watch}
 use Rattle.tree_specs.specs.Words.Objects.{same, is_same}
 use Rattle.tree_specs.specs.Events.Rotation.{watch_of, is_watching, is_watched, closed_by, closes_with, watched, unwatched, rewatched, behind_all, turned_back, lost, ring_in, ring_without}
 use Rattle.tree_specs.specs.Invariants.Awaiting.{AreDistinct}
-use Rattle.tree_specs.proofs.Tree.Numbered.{by_test, same-true}
+use Rattle.tree_specs.proofs.Tree.Numbered.{same-equal, by_test, same-true}
 
 -- ---- one that passes a test
 

@@ -1,5 +1,4 @@
 -- What a change of the rows, or of the works, keeps sound.
-use Rattle.tree_specs.specs.Invariants.Sound.{is_at_turn_mark, IsTurning, TurnedAt}
 use Rattle.std.proofs.Common.{◌≡◌, ◌≢◌, ℕ, suc, zero, ◌+◌, ◌<◌, List, [], ◌∷◌, ◌++◌, Option, Some, None, true, false, nat_eq, refl, sym, ◌∙◌, ap, subst, ◌⊎◌, inl, inr, arith}
 use Rattle.std.proofs.lemmas.Bool.{eqb-true}
 use Rattle.tree_specs.specs.Machine.Profiles.{Phase, InRun, InHandler, InLoop}
@@ -15,7 +14,7 @@ use Rattle.tree_specs.specs.Words.Objects.{same}
 use Rattle.tree_specs.specs.Tree.Pool.{Pool, row_of, target_at, is_object_row, is_owner, is_below, owner_of, without, changed, add, take_number, remove, place, named_row, sized_row, limited_row, marked_row, hooked_row}
 use Rattle.tree_specs.specs.Tree.Heirs.{heir}
 use Rattle.tree_specs.specs.Tree.Targets.{target_of, newest_ref, is_context}
-use Rattle.tree_specs.specs.Invariants.Sound.{IsReferable, IsQuietRow, Refers, Owned, Shaped, ValidAt, phase_of, phases, claim_if, claim, claims, AllWait, IsLive, Rests, Sound}
+use Rattle.tree_specs.specs.Invariants.Sound.{is_at_turn_mark, IsTurning, TurnedAt, IsReferable, IsQuietRow, Refers, Owned, Shaped, ValidAt, phase_of, phases, claim_if, claim, claims, AllWait, IsLive, Rests, Sound, MayBePlaced}
 use Rattle.tree_specs.proofs.Tree.Numbered.{by_test, same-true, same-equal, same-false, same_or_not, is_below-some}
 use Rattle.tree_specs.proofs.Tree.Rows.{row_of-changed-other, row_of-changed-same, row_of-without-other, row_of-without-same, row_of-placed-other, row_of-placed-same}
 use Rattle.tree_specs.proofs.Tree.Rooted.{KeepsPlace, forest-new, forest-placed, forest-changed, forest-without}
@@ -23,7 +22,6 @@ use Rattle.tree_specs.proofs.Tree.Heirs.{heir-may_take}
 use Rattle.tree_specs.proofs.Tree.Referring.{none-refers, unreferred, refers-at, refers-nothing, referable-refers, reference-childless}
 use Rattle.tree_specs.specs.Calls.Refusals.{is_referable}
 use Rattle.tree_specs.specs.Tree.Forest.{Distinct}
-use Rattle.tree_specs.specs.Invariants.Sound.{MayBePlaced}
 
 -- ---- what the works claim of a row
 

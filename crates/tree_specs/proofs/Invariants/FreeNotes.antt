@@ -1,10 +1,6 @@
 -- What each step of a free keeps of what holds of requests.
-use Rattle.tree_specs.specs.declared.kind.Kind.{Kind}
-use Rattle.tree_specs.specs.declared.kind.Kind.TheVariants as kinds
-use Rattle.tree_specs.specs.Events.Pending.{disarmed}
 use Rattle.std.proofs.Common.{◌≡◌, ℕ, nat_eq, List, [], ◌∷◌, Option, Some, None, true, false, refl, sym, ◌∙◌, ap, inr}
-use Rattle.step_machine.specs.Machine.{Move}
-use Rattle.step_machine.specs.Machine.{Move as Do}
+use Rattle.step_machine.specs.Machine.{Move, Move as Do}
 use Rattle.step_machine.proofs.Ends.{Leads}
 use Rattle.tree_specs.specs.declared.object.Obj.{Obj}
 use Rattle.tree_specs.specs.declared.object.Owner.{Owner}
@@ -29,11 +25,14 @@ use Rattle.tree_specs.specs.declared.frame.Answer.{Answer}
 use Rattle.tree_specs.specs.declared.frame.Answer.TheVariants.{Freed}
 use Rattle.tree_specs.specs.declared.free_step.FreeReply.{FreeReply}
 use Rattle.tree_specs.specs.declared.free_step.FreeReply.TheVariants.{Ok}
+use Rattle.tree_specs.specs.declared.kind.Kind.{Kind}
+use Rattle.tree_specs.specs.declared.kind.Kind.TheVariants as kinds
 use Rattle.tree_specs.specs.Rules.Items.{Item}
 use Rattle.tree_specs.specs.Tree.Pool.{Pool, row_of, target_at, newest_ref_of, is_below, owner_of, is_inside, first_kid, left_row, marked_row, hooked_row, set_mark, detach, doom}
 use Rattle.tree_specs.specs.Tree.Targets.{newest_ref, is_context}
 use Rattle.tree_specs.specs.Tree.Heirs.{heir}
 use Rattle.tree_specs.specs.Events.Requests.{note_of, is_unreceived}
+use Rattle.tree_specs.specs.Events.Pending.{disarmed}
 use Rattle.tree_specs.specs.Calls.Refusals.{is_request, is_request_row, is_queue}
 use Rattle.tree_specs.specs.Machine.FreeTable.{FreeMove, begin_quiet, begin_step, refs_step, unlink_step, release_step, last_step, child_step, loop_step, hand_on_step, tried_step, free_step}
 use Rattle.tree_specs.specs.Machine.Table.{table, event_of, announced, lifted, run_for, resume}

@@ -1,6 +1,4 @@
 -- What each step keeps of what holds at every moment.
-use Rattle.tree_specs.specs.Calls.Passed.{IsUsable}
-use Rattle.tree_specs.specs.Calls.Plans.Change.{Enter}
 use Rattle.std.proofs.Common.{ℕ, List, ◌∷◌, Some, None, refl}
 use Rattle.tree_specs.specs.declared.call.Call.{Call}
 use Rattle.tree_specs.specs.declared.question.Ask.{Ask}
@@ -19,14 +17,16 @@ use Rattle.tree_specs.specs.declared.frame.Errand.{Errand}
 use Rattle.tree_specs.specs.declared.frame.Errand.TheVariants.{Finish, Notify, Receive, Cancel}
 use Rattle.tree_specs.specs.declared.frame.RequestFrame.{RequestFrame}
 use Rattle.tree_specs.specs.declared.frame.RequestFrame.TheVariants as request
-use Rattle.tree_specs.specs.Calls.Plans.{Change, Plan, planned, changed_by}
+use Rattle.tree_specs.specs.Calls.Plans.{Change, Plan, changed_by, planned_at}
 use Rattle.tree_specs.specs.Calls.Plans.Plan.{Does, Frees, Unlinks, Empties, Asks, Turns, Works}
+use Rattle.tree_specs.specs.Calls.Plans.Change.{Enter}
+use Rattle.tree_specs.specs.Calls.Passed.{IsUsable}
 use Rattle.tree_specs.specs.Rules.Answers.{later}
 use Rattle.tree_specs.specs.Machine.Table.{step, plan_step, turning_step}
 use Rattle.tree_specs.specs.Invariants.Sound.{RequestRests, Sound}
 use Rattle.tree_specs.specs.Invariants.Sound.Footing.{OnRequesting}
 use Rattle.tree_specs.proofs.Invariants.Changes.{stands, goes_on, placed-sound}
-use Rattle.tree_specs.proofs.Calls.Plans.{MayWork, May, may-planned}
+use Rattle.tree_specs.proofs.Calls.Plans.{MayWork, May, may-planned-at}
 use Rattle.tree_specs.proofs.Calls.Changes.{MayDo, change-sound}
 use Rattle.tree_specs.proofs.Invariants.KeptFrees.{KeptBy, asking, beginning, dooming, ended, hooked, judged, leaving, looping, still-there, tried}
 use Rattle.tree_specs.proofs.Invariants.KeptGivings.{releasing, unlinking}
@@ -72,7 +72,7 @@ planned-kept q c fs p k s (Works change errand x) may = work-kept q c fs p k cha
 -- every step keeps what is sound
 pub sound-kept : (f : Frame) (fs : List Frame) (p : Pool) (k : ℕ) → Sound f fs p → AreQueued p → KeptBy (step f p) fs k
 sound-kept (frame.Call (Asking q)) fs p k s w = asking q fs p k s
-sound-kept (frame.Call (Doing q c)) fs p k s w = planned-kept q c fs p k s (planned p c) (may-planned (frame.Call (Doing q c)) fs p s c)
+sound-kept (frame.Call (Doing q c)) fs p k s w = planned-kept q c fs p k s (planned_at q p c) (may-planned-at (frame.Call (Doing q c)) fs p s q c)
 sound-kept (frame.Call (Announcing q notice r)) fs p k s w = goes_on (frame.Call (Announcing q notice r)) (frame.Call (Telling q r)) fs p (λ y. refl) tt s
 sound-kept (frame.Call (Telling q r)) fs p k s w = goes_on (frame.Call (Telling q r)) (frame.Call (Asking q)) fs p (λ x. refl) tt s
 sound-kept (frame.Call (Returning v)) fs p k s w = ended (Returned v) (frame.Call (Returning v)) fs p k s (λ x. refl) (λ x c n b gs e. tt)

@@ -1,12 +1,7 @@
 -- What each step keeps of what is so of the works below one: the host's own caller stands on nothing, and nothing goes on with
 -- a request that is to be notified.
-use Rattle.tree_specs.specs.Machine.Table.{closing_step, deferred_step}
-use Rattle.tree_specs.specs.Calls.Refusals.{is_doomed}
-use Rattle.tree_specs.specs.Tree.Pool.{exit}
-use Rattle.tree_specs.proofs.Invariants.Waiters.{ForParting}
 use Rattle.std.proofs.Common.{◌≡◌, ℕ, suc, zero, List, [], ◌∷◌, Option, Some, None, Bool, true, false, refl, sym, ◌∙◌, subst}
-use Rattle.step_machine.specs.Machine.{Move}
-use Rattle.step_machine.specs.Machine.{Move as Do}
+use Rattle.step_machine.specs.Machine.{Move, Move as Do}
 use Rattle.step_machine.proofs.Ends.{Leads}
 use Rattle.tree_specs.specs.declared.object.Obj.{Obj}
 use Rattle.tree_specs.specs.declared.call.Call.{Call}
@@ -41,20 +36,21 @@ use Rattle.tree_specs.specs.declared.frame.Answer.{Answer}
 use Rattle.tree_specs.specs.declared.frame.Answer.TheVariants.{Freed, Returned, Turned, Heard}
 use Rattle.tree_specs.specs.Rules.Items.{Item}
 use Rattle.tree_specs.specs.Rules.Answers.{later}
-use Rattle.tree_specs.specs.Tree.Pool.{Pool, row_of, open_descriptor, run_queue}
+use Rattle.tree_specs.specs.Tree.Pool.{exit, Pool, row_of, open_descriptor, run_queue}
 use Rattle.tree_specs.specs.Events.Coming.{handler_for, goes_after}
 use Rattle.tree_specs.specs.Events.Requests.{note_of, is_noted, is_received, is_unreceived, cleanup_in, cancel_in, routine_of}
-use Rattle.tree_specs.specs.Calls.Plans.{Plan, planned}
+use Rattle.tree_specs.specs.Calls.Plans.{Plan, planned, planned_at}
 use Rattle.tree_specs.specs.Calls.Plans.Plan.{Does, Frees, Unlinks, Empties, Asks, Turns, Works}
+use Rattle.tree_specs.specs.Calls.Refusals.{is_doomed}
 use Rattle.tree_specs.specs.Machine.FreeTable.{FreeMove, free_step}
-use Rattle.tree_specs.specs.Machine.Table.{Step, table, event_of, announced, lifted, run_for, plan_step, turning_step, starting_step, handled_step, turn_step, outside_step, cancelling_step, cleaning_step, release_object, cleaned_step, callback_step, notifying_step, request_step, resume, step, vacating_step, triggering_step}
+use Rattle.tree_specs.specs.Machine.Table.{closing_step, deferred_step, Step, table, event_of, announced, lifted, run_for, plan_step, turning_step, starting_step, handled_step, turn_step, outside_step, cancelling_step, cleaning_step, release_object, cleaned_step, callback_step, notifying_step, request_step, resume, step, vacating_step, triggering_step}
 use Rattle.tree_specs.specs.Invariants.Sound.{phases, claims, AllWait, Sound}
 use Rattle.tree_specs.specs.Invariants.Noted.{NotesHold, Noted, ClaimNothing, CalmAsk, CalmErrand, IsCalm, AllCalm}
 use Rattle.tree_specs.proofs.Tree.Numbered.{by_test}
 use Rattle.tree_specs.proofs.Calls.Checks.{Heard as HeardBy, HeardCall, HeardReturn, heard-leads, Reached, ReachedOpening, ReachedHearing, reached-leads}
-use Rattle.tree_specs.proofs.Calls.Plans.{May, may-planned}
+use Rattle.tree_specs.proofs.Calls.Plans.{May, may-planned-at}
 use Rattle.tree_specs.proofs.Invariants.Turning.{Passes, Pass, Serve, look-passes, taken-plain, Trigger}
-use Rattle.tree_specs.proofs.Invariants.Waiters.{Waiter, ForFree, ForTurn, ForRequest, ForRoutine, ForHandler, ForClear, ForServed, waiter}
+use Rattle.tree_specs.proofs.Invariants.Waiters.{ForParting, Waiter, ForFree, ForTurn, ForRequest, ForRoutine, ForHandler, ForClear, ForServed, waiter}
 use Rattle.tree_specs.proofs.Invariants.Notes.{settled}
 use Rattle.tree_specs.proofs.Invariants.KeptFrees.{KeptBy}
 use Rattle.tree_specs.proofs.Invariants.Keeps.{sound-kept}
@@ -266,7 +262,7 @@ calm-kept (frame.Call (Asking q)) fs p (suc k) s n w h = λ i g e. leads g (hear
     leads _ (HeardCall c) = h
     leads _ (HeardReturn v of) = (tt, h.1)
 calm-kept (frame.Call (Doing q c)) fs p k s n w h =
-    planned-calm q c fs p k h (planned p c) (may-planned (frame.Call (Doing q c)) fs p s c) (sound-kept (frame.Call (Doing q c)) fs p k s w) (noted-kept (frame.Call (Doing q c)) fs p k s n)
+    planned-calm q c fs p k h (planned_at q p c) (may-planned-at (frame.Call (Doing q c)) fs p s q c) (sound-kept (frame.Call (Doing q c)) fs p k s w) (noted-kept (frame.Call (Doing q c)) fs p k s n)
 calm-kept (frame.Call (Announcing q notice r)) fs p k s n w h = h
 calm-kept (frame.Call (Telling q r)) fs p k s n w h = h
 calm-kept (frame.Call (Returning v)) fs p k s n w h = ended (Returned v) fs p k s.waiting h.1

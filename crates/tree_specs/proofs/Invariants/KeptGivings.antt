@@ -1,5 +1,4 @@
 -- What the giving up of an object keeps of what holds at every moment.
-use Rattle.tree_specs.proofs.Invariants.Waiters.{ForParting}
 use Rattle.std.proofs.Common.{◌≡◌, ◌≢◌, ℕ, List, [], ◌∷◌, Option, Some, None, true, false, refl, sym, ◌∙◌, ap, subst}
 use Rattle.std.specs.Prelude.{unwrap_or, ◌||◌}
 use Rattle.tree_specs.specs.declared.object.Obj.{Obj}
@@ -23,7 +22,7 @@ use Rattle.tree_specs.proofs.Tree.Rooted.{is_there-owner}
 use Rattle.tree_specs.proofs.Tree.Referring.{newest-refers, newest-of-refers, outside-without, owner-without}
 use Rattle.tree_specs.proofs.Tree.Ancestry.{inside-self, inside-owner}
 use Rattle.tree_specs.specs.Tree.Targets.{newest_ref}
-use Rattle.tree_specs.proofs.Invariants.Waiters.{Waiter, ForFree, ForClear, ForRelease, waiter}
+use Rattle.tree_specs.proofs.Invariants.Waiters.{ForParting, Waiter, ForFree, ForClear, ForRelease, waiter}
 use Rattle.tree_specs.proofs.Invariants.Changes.{dropped-sound, goes_on}
 use Rattle.tree_specs.proofs.Invariants.KeptFrees.{KeptBy, apart}
 

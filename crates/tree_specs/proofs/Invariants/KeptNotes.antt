@@ -1,15 +1,4 @@
 -- What each step keeps of what holds of requests.
-use Rattle.tree_specs.specs.Machine.Table.{closing_step, deferred_step}
-use Rattle.tree_specs.specs.Calls.Refusals.{is_doomed}
-use Rattle.tree_specs.specs.Tree.Pool.{exit, is_usable}
-use Rattle.tree_specs.proofs.Calls.Changes.{usable-row}
-use Rattle.tree_specs.specs.Tree.Pool.{enter, marked_row, set_mark}
-use Rattle.tree_specs.specs.declared.row.Mark.TheVariants.{Busy}
-use Rattle.tree_specs.specs.declared.kind.Kind.{Kind}
-use Rattle.tree_specs.specs.Words.Objects.{same}
-use Rattle.tree_specs.specs.Calls.Passed.{IsUsable}
-use Rattle.tree_specs.specs.Calls.Plans.Change.{Enter}
-use Rattle.tree_specs.specs.Words.Objects.{first_context}
 use Rattle.std.proofs.Common.{◌≡◌, ℕ, suc, zero, nat_eq, List, [], Option, Some, None, Bool, true, false, refl, sym, ◌∙◌, ap, subst}
 use Rattle.tree_specs.specs.declared.object.Obj.{Obj}
 use Rattle.tree_specs.specs.declared.row.Mark.TheVariants.{Busy}
@@ -39,30 +28,31 @@ use Rattle.tree_specs.specs.declared.frame.OutsideFrame.TheVariants.{Reaching, O
 use Rattle.tree_specs.specs.declared.frame.RequestFrame.{RequestFrame}
 use Rattle.tree_specs.specs.declared.frame.RequestFrame.TheVariants as request
 use Rattle.tree_specs.specs.declared.frame.Answer.TheVariants.{Returned, Turned, Heard}
-use Rattle.tree_specs.specs.Tree.Pool.{Pool, row_of, marked_row, schedule, renote, open_descriptor, run_queue, trigger, add, add_queue, add_entry}
+use Rattle.tree_specs.specs.Tree.Pool.{exit, is_usable, enter, marked_row, set_mark, Pool, row_of, schedule, renote, open_descriptor, run_queue, trigger, add, add_queue, add_entry}
 use Rattle.tree_specs.specs.Tree.Targets.{newest_ref, is_context}
 use Rattle.tree_specs.specs.Events.Coming.{handler_for, begun, goes_after}
 use Rattle.tree_specs.specs.Events.Requests.{note_of, is_noted, is_unreceived, cleanup_in, cancel_in, is_received, is_in_progress, state_number, cleaned, not_deferring}
 use Rattle.tree_specs.specs.Calls.Refusals as refusing
-use Rattle.tree_specs.specs.Calls.Refusals.{tests, is_request, is_referable, is_request_row}
-use Rattle.tree_specs.specs.Calls.Plans.{Change, Plan, planned, plan, changed_by, gift}
-use Rattle.tree_specs.specs.Calls.Plans.Change.{Edit, Add, Place, Arm, AddRequest, Renotes, Then, AddQueue, AddEntry}
+use Rattle.tree_specs.specs.Calls.Refusals.{is_doomed, tests, is_request, is_referable, is_request_row}
+use Rattle.tree_specs.specs.Calls.Plans.{Change, Plan, planned, plan, changed_by, gift, planned_at}
+use Rattle.tree_specs.specs.Calls.Plans.Change.{Enter, Edit, Add, Place, Arm, AddRequest, Renotes, Then, AddQueue, AddEntry}
 use Rattle.tree_specs.specs.Calls.Plans.Plan.{Does, Frees, Unlinks, Turns, Works}
-use Rattle.tree_specs.specs.Calls.Passed.{AllPassed}
+use Rattle.tree_specs.specs.Calls.Passed.{IsUsable, AllPassed}
 use Rattle.tree_specs.specs.Machine.FreeTable.{free_step}
-use Rattle.tree_specs.specs.Machine.Table.{Step, plan_step, turning_step, starting_step, handled_step, turn_step, outside_step, cancelling_step, cleaning_step, release_object, cleaned_step, callback_step, notifying_step, request_step, step, vacating_step, triggering_step}
+use Rattle.tree_specs.specs.Machine.Table.{closing_step, deferred_step, Step, plan_step, turning_step, starting_step, handled_step, turn_step, outside_step, cancelling_step, cleaning_step, release_object, cleaned_step, callback_step, notifying_step, request_step, step, vacating_step, triggering_step}
 use Rattle.tree_specs.specs.Invariants.Sound.{Rests, Sound}
 use Rattle.tree_specs.specs.Invariants.Noted.{IsInProgress, NotesHold, Noted, IsForRequest, IsOfRequest}
 use Rattle.tree_specs.proofs.Tree.Numbered.{by_test}
-use Rattle.tree_specs.proofs.Calls.Checks.{planned-by, Makes, frees-makes, handed-makes, Heard as HeardBy, HeardCall, HeardReturn, heard-leads, Reached, ReachedOpening, ReachedHearing, reached-leads}
-use Rattle.tree_specs.proofs.Calls.Plans.{MayWork, May, may-planned}
-use Rattle.tree_specs.proofs.Calls.Changes.{MayDo, change-sound}
+use Rattle.tree_specs.proofs.Calls.Checks.{planned-by, Makes, frees-makes, handed-makes, Heard as HeardBy, HeardCall, HeardReturn, heard-leads, Reached, ReachedOpening, ReachedHearing, reached-leads, planned-at-by}
+use Rattle.tree_specs.proofs.Calls.Plans.{MayWork, May, may-planned-at}
+use Rattle.tree_specs.proofs.Calls.Changes.{usable-row, MayDo, change-sound}
 use Rattle.tree_specs.proofs.Invariants.Changes.{nobody}
 use Rattle.tree_specs.proofs.Invariants.Turning.{handler-ready, Passes, Pass, Serve, look-passes, taken-plain, Trigger}
 use Rattle.tree_specs.proofs.Invariants.Notes.{same-holds, unnoted-unreceived, excepted, unexcepted, changed-holds, unmarked-holds, quiet-holds, placed-holds, added-holds, requested-holds, armed-holds, renoted-holds, finished-holds, received-holds}
 use Rattle.tree_specs.proofs.Invariants.FreeNotes.{NotedBy, ended, free-noted, lifted-noted}
 use Rattle.tree_specs.specs.Events.Queues.{Head, head_of, next_of, runs}
 use Rattle.tree_specs.specs.declared.object.Owner.TheVariants.{Of}
+use Rattle.tree_specs.specs.Words.Objects.{same, first_context}
 
 -- ---- calls
 
@@ -325,7 +315,7 @@ noted-kept (frame.Call (Asking q)) fs p (suc k) s n = λ i g e. leads g (heard-l
     leads _ (HeardCall c) = record { pool = n.pool; works = tt }
     leads _ (HeardReturn v of) = record { pool = n.pool; works = tt }
 noted-kept (frame.Call (Doing q c)) fs p k s n =
-    planned-noted q c fs p k s n.pool (planned p c) (may-planned (frame.Call (Doing q c)) fs p s c) (plan-keeps p (unnoted p n.pool.notes (nobody p s.valid)) c)
+    planned-noted q c fs p k s n.pool (planned_at q p c) (may-planned-at (frame.Call (Doing q c)) fs p s q c) (planned-at-by (PlanKeeps p) q p c (plan-keeps p (unnoted p n.pool.notes (nobody p s.valid)) c) (λ t. tt))
 noted-kept (frame.Call (Announcing q notice r)) fs p k s n = record { pool = n.pool; works = tt }
 noted-kept (frame.Call (Telling q r)) fs p k s n = record { pool = n.pool; works = tt }
 noted-kept (frame.Call (Returning v)) fs p k s n = ended (Returned v) fs p k s.waiting n.pool

@@ -1,10 +1,8 @@
 -- What each step of a request's work, and of a free that waits for it, keeps of what holds at every moment.
-use Rattle.tree_specs.proofs.Invariants.Changes.{no-turn-row}
-use Rattle.tree_specs.specs.declared.row.Mark.TheVariants.{Asked}
 use Rattle.std.proofs.Common.{◌≡◌, ℕ, List, [], ◌∷◌, Option, Some, None, false, refl, ◌∙◌, inl}
 use Rattle.tree_specs.specs.declared.object.Obj.{Obj}
 use Rattle.tree_specs.specs.declared.row.Row.{Row}
-use Rattle.tree_specs.specs.declared.row.Mark.TheVariants.{Quiet}
+use Rattle.tree_specs.specs.declared.row.Mark.TheVariants.{Asked, Quiet}
 use Rattle.tree_specs.specs.declared.call.Call.TheVariants as call
 use Rattle.tree_specs.specs.declared.handler.Handler.{Handler}
 use Rattle.tree_specs.specs.declared.question.Ask.TheVariants.{Routine}
@@ -33,7 +31,7 @@ use Rattle.tree_specs.proofs.Tree.Numbered.{by_test, same-false}
 use Rattle.tree_specs.proofs.Tree.Rows.{row_of-changed-same}
 use Rattle.tree_specs.proofs.Tree.Referring.{newest-changed}
 use Rattle.tree_specs.proofs.Calls.Plans.{May, may-planned}
-use Rattle.tree_specs.proofs.Invariants.Changes.{run-refers, run-unreferred, running-row, claim-here, stands, waiting-sound, changed-sound, shape-of, live-owned, marks-place}
+use Rattle.tree_specs.proofs.Invariants.Changes.{no-turn-row, run-refers, run-unreferred, running-row, claim-here, stands, waiting-sound, changed-sound, shape-of, live-owned, marks-place}
 use Rattle.tree_specs.proofs.Invariants.KeptFrees.{KeptBy, ended, prepared-on}
 use Rattle.tree_specs.specs.Invariants.Sound.Footing.{OnFree}
 use Rattle.tree_specs.specs.Invariants.Queued.{AreQueued}

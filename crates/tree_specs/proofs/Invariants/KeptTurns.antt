@@ -1,23 +1,12 @@
 -- What each step of a turn keeps of what holds at every moment.
-use Rattle.tree_specs.proofs.Invariants.Turning.{handler-home, at-turn-busy}
-use Rattle.tree_specs.specs.Events.Handlers.{handler_of}
-use Rattle.tree_specs.specs.Events.Coming.{is_at_turn}
-use Rattle.tree_specs.specs.declared.moment.What.TheVariants as what
-use Rattle.tree_specs.proofs.Invariants.Changes.{turning-row}
-use Rattle.tree_specs.specs.Invariants.Sound.{is_at_turn_mark, IsTurning}
-use Rattle.tree_specs.specs.Calls.Refusals.{is_referable, is_doomed}
-use Rattle.tree_specs.specs.declared.row.Mark.{Mark}
-use Rattle.tree_specs.specs.declared.row.Mark.TheVariants.{Doomed, Dying}
-use Rattle.tree_specs.specs.declared.kind.Kind.{Kind}
-use Rattle.tree_specs.specs.declared.kind.Kind.TheVariants as kind
-use Rattle.tree_specs.specs.Tree.Pool.{exit}
-use Rattle.tree_specs.specs.Machine.Table.{closing_step}
 use Rattle.std.proofs.Common.{◌≡◌, ℕ, suc, zero, List, [], ◌∷◌, ◌++◌, Option, Some, None, true, false, refl, sym, ◌∙◌, ap, subst, inl, inr}
 use Rattle.tree_specs.specs.declared.object.Obj.{Obj}
 use Rattle.tree_specs.specs.declared.row.Row.{Row}
-use Rattle.tree_specs.specs.declared.row.Mark.TheVariants.{Quiet, Busy}
+use Rattle.tree_specs.specs.declared.row.Mark.TheVariants.{Doomed, Dying, Quiet, Busy}
+use Rattle.tree_specs.specs.declared.row.Mark.{Mark}
 use Rattle.tree_specs.specs.declared.handler.Handler.{Handler}
 use Rattle.tree_specs.specs.declared.moment.What.{What}
+use Rattle.tree_specs.specs.declared.moment.What.TheVariants as what
 use Rattle.tree_specs.specs.declared.occasion.Occasion.{Occasion}
 use Rattle.tree_specs.specs.declared.question.Ask.TheVariants.{Routine}
 use Rattle.tree_specs.specs.declared.reply.Reply.TheVariants.{Number}
@@ -34,19 +23,23 @@ use Rattle.tree_specs.specs.declared.request.State.TheVariants as state
 use Rattle.tree_specs.specs.declared.frame.OutsideFrame.{OutsideFrame}
 use Rattle.tree_specs.specs.declared.frame.OutsideFrame.TheVariants.{Reaching, Opening, Hearing}
 use Rattle.tree_specs.specs.declared.frame.Answer.TheVariants.{Turned, Heard}
+use Rattle.tree_specs.specs.declared.kind.Kind.{Kind}
+use Rattle.tree_specs.specs.declared.kind.Kind.TheVariants as kind
 use Rattle.tree_specs.specs.Words.Objects.{same}
 use Rattle.tree_specs.specs.Tree.Targets.{target_of, newest_ref, is_context}
-use Rattle.tree_specs.specs.Tree.Pool.{Pool, row_of, target_at, changed, set_mark, marked_row, open_descriptor}
-use Rattle.tree_specs.specs.Events.Coming.{handler_for, handler_moment, rotated, begun, goes_after}
+use Rattle.tree_specs.specs.Tree.Pool.{exit, Pool, row_of, target_at, changed, set_mark, marked_row, open_descriptor}
+use Rattle.tree_specs.specs.Events.Coming.{is_at_turn, handler_for, handler_moment, rotated, begun, goes_after}
+use Rattle.tree_specs.specs.Events.Handlers.{handler_of}
 use Rattle.tree_specs.specs.Machine.Profiles.{InHandler, turn_profile}
-use Rattle.tree_specs.specs.Machine.Table.{Step, starting_step, turn_step, outside_step}
-use Rattle.tree_specs.specs.Invariants.Sound.{phase_of, phases, claim, claim_by, claims, footing, AllWait, IsLive, IsReferable, Footing, IsTurned, IsRequested, RequestRests, Rests, Sound}
+use Rattle.tree_specs.specs.Machine.Table.{closing_step, Step, starting_step, turn_step, outside_step}
+use Rattle.tree_specs.specs.Invariants.Sound.{is_at_turn_mark, IsTurning, phase_of, phases, claim, claim_by, claims, footing, AllWait, IsLive, IsReferable, Footing, IsTurned, IsRequested, RequestRests, Rests, Sound}
+use Rattle.tree_specs.specs.Calls.Refusals.{is_referable, is_doomed}
 use Rattle.tree_specs.proofs.Tree.Numbered.{by_test, same-equal, same-false}
 use Rattle.tree_specs.proofs.Tree.Rows.{row_of-changed-same}
 use Rattle.tree_specs.proofs.Tree.Referring.{unreferred, newest-changed}
-use Rattle.tree_specs.proofs.Invariants.Changes.{run-refers, run-unreferred, handling-row, claim-here, stands, goes_on, waiting-sound, changed-sound, shape-of, live-owned, marks-place}
+use Rattle.tree_specs.proofs.Invariants.Changes.{turning-row, run-refers, run-unreferred, handling-row, claim-here, stands, goes_on, waiting-sound, changed-sound, shape-of, live-owned, marks-place}
 use Rattle.tree_specs.proofs.Invariants.KeptFrees.{KeptBy, ended}
-use Rattle.tree_specs.proofs.Invariants.Turning.{Ready, handler-ready, rotated-rows, IsPlain, Passes, Pass, Serve, look-passes, taken-plain, Trigger}
+use Rattle.tree_specs.proofs.Invariants.Turning.{handler-home, at-turn-busy, Ready, handler-ready, rotated-rows, IsPlain, Passes, Pass, Serve, look-passes, taken-plain, Trigger}
 use Rattle.tree_specs.proofs.Calls.Checks.{Reached, ReachedOpening, ReachedHearing, reached-leads}
 
 -- a work that says nothing of an object, over the same rows, in the place of another one

@@ -1,21 +1,12 @@
 -- How a turn goes on: what is to start, and the works that it goes on as.
-use Rattle.tree_specs.specs.Events.Handlers.{handler_of}
-use Rattle.tree_specs.specs.Events.Coming.{at_turn, is_at_turn, is_at_turn_row}
-use Rattle.tree_specs.specs.Words.Objects.{first_context}
-use Rattle.tree_specs.specs.declared.row.Mark.TheVariants.{Busy}
-use Rattle.tree_specs.specs.Tree.Pool.{set_mark, marked_row}
-use Rattle.tree_specs.proofs.Tree.Numbered.{same_or_not}
-use Rattle.tree_specs.proofs.Tree.Rows.{row_of-changed-other}
-use Rattle.std.proofs.Common.{subst, sym, inl, inr}
-use Rattle.std.proofs.Common.{◌≡◌, ℕ, ◌≤◌, List, [], ◌∷◌, Option, Some, None, true, false, nat_eq, nat_le, Bool, refl, ap, ◌∙◌, arith}
+use Rattle.std.proofs.Common.{subst, sym, inl, inr, ◌≡◌, ℕ, ◌≤◌, List, [], ◌∷◌, Option, Some, None, true, false, nat_eq, nat_le, Bool, refl, ap, ◌∙◌, arith}
 use Rattle.std.specs.Prelude.{◌-◌}
 use Rattle.step_machine.specs.Machine.{Move as Do}
 use Rattle.tree_specs.specs.declared.object.Obj.{Obj}
-use Rattle.tree_specs.specs.declared.coming.Coming.{Coming}
 use Rattle.tree_specs.specs.declared.due.Due.{Due}
 use Rattle.tree_specs.specs.declared.row.Row.{Row}
 use Rattle.tree_specs.specs.declared.row.Mark.{Mark}
-use Rattle.tree_specs.specs.declared.row.Mark.TheVariants.{Quiet}
+use Rattle.tree_specs.specs.declared.row.Mark.TheVariants.{Busy, Quiet}
 use Rattle.tree_specs.specs.declared.kind.Kind.{Kind}
 use Rattle.tree_specs.specs.declared.kind.Kind.TheVariants as kind
 use Rattle.tree_specs.specs.declared.handler.Handler.{Handler}
@@ -31,21 +22,24 @@ use Rattle.tree_specs.specs.declared.frame.RequestFrame.TheVariants as request
 use Rattle.tree_specs.specs.declared.frame.Errand.{Errand}
 use Rattle.tree_specs.specs.declared.frame.Errand.TheVariants.{Finish, Notify}
 use Rattle.tree_specs.specs.declared.request.State.TheVariants.{TimedOut}
+use Rattle.tree_specs.specs.declared.coming.Coming.{Coming}
 use Rattle.tree_specs.specs.Events.Requests.{is_noted}
 use Rattle.tree_specs.specs.Tree.Targets.{target_of, is_context}
-use Rattle.tree_specs.specs.Tree.Pool.{Pool, row_of, here, soon_here, times_here, ring_here, unschedule, disarm}
-use Rattle.tree_specs.specs.Words.Objects.{same}
+use Rattle.tree_specs.specs.Tree.Pool.{set_mark, marked_row, Pool, row_of, here, soon_here, times_here, ring_here, unschedule, disarm}
+use Rattle.tree_specs.specs.Words.Objects.{first_context, same}
 use Rattle.tree_specs.specs.Events.Pending.{first, is_armed}
 use Rattle.tree_specs.proofs.Events.PendingLaws.{disarmed-other, within-armed}
 use Rattle.tree_specs.specs.Events.Rotation.{Ready as ReadyOne, first_ready}
-use Rattle.tree_specs.specs.Events.Coming.{wait_limit, comes_as, is_quiet_mark, may_start, handler_for, looks_again, at_time, with_flags, plainly, rotated}
+use Rattle.tree_specs.specs.Events.Coming.{at_turn, is_at_turn, is_at_turn_row, wait_limit, comes_as, is_quiet_mark, may_start, handler_for, looks_again, at_time, with_flags, plainly, rotated}
 use Rattle.tree_specs.specs.Calls.Refusals.{is_referable}
 use Rattle.tree_specs.specs.Machine.Table.{Step, work_of, due_now, due_step, taking_step, early_step, timed_step, timed_turn, ready_turn, looked_turn, turn_step, turn_taken}
 use Rattle.tree_specs.specs.Machine.Profiles.{turn_profile, caller_size}
 use Rattle.tree_specs.specs.Invariants.Sound.{Footing, IsTurned, TurnRests}
-use Rattle.tree_specs.proofs.Tree.Numbered.{by_test, same-equal}
+use Rattle.tree_specs.proofs.Tree.Numbered.{same_or_not, by_test, same-equal}
+use Rattle.tree_specs.proofs.Tree.Rows.{row_of-changed-other}
 use Rattle.tree_specs.proofs.Calls.Checks.{both-true, clocked-by, polled-by}
 use Rattle.tree_specs.specs.Events.Queues.{has_queue}
+use Rattle.tree_specs.specs.Events.Handlers.{handler_of}
 
 -- ---- what is to start
 

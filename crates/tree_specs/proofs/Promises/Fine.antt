@@ -1,11 +1,8 @@
 -- An item is fine where it fits those before it and has its cause; what a work that ends answers keeps that so.
-use Rattle.tree_specs.specs.declared.frame.TurnFrame.TheVariants.{Parting}
-use Rattle.tree_specs.proofs.Invariants.Waiters.{ForParting}
 use Rattle.tree_specs.specs.Calls.Refusals.{is_held, is_running}
 use Rattle.std.proofs.Common.{◌≡◌, List, [], ◌∷◌, ◌++◌, Option, Some, None, true, false, refl, sym, ◌∙◌, subst, map}
 use Rattle.std.proofs.lemmas.List.{map_push}
-use Rattle.step_machine.specs.Machine.{Move}
-use Rattle.step_machine.specs.Machine.{Move as Do}
+use Rattle.step_machine.specs.Machine.{Move, Move as Do}
 use Rattle.step_machine.specs.Noted.{noted_move, noted_work, with_note}
 use Rattle.step_machine.specs.Open.{LastIs}
 use Rattle.step_machine.proofs.History.{FitsOn}
@@ -20,7 +17,7 @@ use Rattle.tree_specs.specs.declared.event.Event.TheVariants.{Replied, Refused}
 use Rattle.tree_specs.specs.declared.frame.Frame.{Frame}
 use Rattle.tree_specs.specs.declared.frame.Frame.TheVariants as frame
 use Rattle.tree_specs.specs.declared.frame.CallFrame.TheVariants.{Awaiting, Turning, Requesting}
-use Rattle.tree_specs.specs.declared.frame.TurnFrame.TheVariants.{Handling, Clearing, Serving}
+use Rattle.tree_specs.specs.declared.frame.TurnFrame.TheVariants.{Parting, Handling, Clearing, Serving}
 use Rattle.tree_specs.specs.declared.handler.Handler.{Handler}
 use Rattle.tree_specs.specs.declared.moment.What.TheVariants as whats
 use Rattle.tree_specs.specs.declared.reply.Reply.TheVariants as reply
@@ -48,7 +45,7 @@ use Rattle.tree_specs.specs.Machine.Meaning.{noted_table}
 use Rattle.tree_specs.proofs.Promises.Later.{Later, later-same}
 use Rattle.tree_specs.proofs.Promises.Past.{IsLeaving, Accounts, Past, past-goes}
 use Rattle.tree_specs.proofs.Promises.Causes.{NotedWork, item_of, told, IsFreeOf, IsAskedAs, IsHook, IsNoHook, IsRunAs, FreesBy, TurnsOrAsks, Knows, KnowsTurn, StandsFor, StandsOn, Stacked, OfNext, IsCaused, Cause, NotHeld, done-reply, cancelled-done}
-use Rattle.tree_specs.proofs.Invariants.Waiters.{Waiter, ForFree, ForRun, ForChild, ForTurn, ForHandler, ForClear, ForRequest, ForServed, ForReceived, ForRoutine, ForRelease, waiter, ForDrained, ForEntry}
+use Rattle.tree_specs.proofs.Invariants.Waiters.{ForParting, Waiter, ForFree, ForRun, ForChild, ForTurn, ForHandler, ForClear, ForRequest, ForServed, ForReceived, ForRoutine, ForRelease, waiter, ForDrained, ForEntry}
 
 abbrev pub work_of : NotedWork → Frame
 work_of w = w.work

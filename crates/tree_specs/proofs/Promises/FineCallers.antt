@@ -1,8 +1,4 @@
 -- The steps of callers: a question, a call, a reply, a return.
-use Rattle.tree_specs.specs.Calls.Passed.{IsUsable}
-use Rattle.tree_specs.specs.Tree.Pool.{enter}
-use Rattle.tree_specs.specs.Calls.Plans.Change.{Enter}
-use Rattle.tree_specs.proofs.Invariants.Waiters.{ForParting}
 use Rattle.tree_specs.specs.Machine.Profiles.{InRun, profile}
 use Rattle.tree_specs.specs.declared.reply.Reply.TheVariants as reply
 use Rattle.tree_specs.specs.declared.reply.Refusal.TheVariants as refusal
@@ -30,25 +26,26 @@ use Rattle.tree_specs.specs.declared.frame.CallFrame.TheVariants.{Asking, Doing,
 use Rattle.tree_specs.specs.declared.frame.FreeFrame.TheVariants.{Unlinking, Beginning, Looping}
 use Rattle.tree_specs.specs.declared.frame.Purpose.TheVariants.{Emptying}
 use Rattle.tree_specs.specs.declared.frame.Answer.TheVariants as answer
-use Rattle.tree_specs.specs.Tree.Pool.{Pool, row_of}
+use Rattle.tree_specs.specs.Tree.Pool.{enter, Pool, row_of}
 use Rattle.tree_specs.specs.Rules.Items.{Item}
 use Rattle.tree_specs.specs.Rules.Items.Item.{Told, Asked}
-use Rattle.tree_specs.specs.Calls.Refusals.{Check, refusals, tests, is_held}
+use Rattle.tree_specs.specs.Calls.Refusals.{Check, refusals, tests, is_held, is_nested}
 use Rattle.tree_specs.specs.Rules.Sequence.{CallStart, Scene}
 use Rattle.tree_specs.specs.Rules.Answers.{later}
 use Rattle.tree_specs.specs.Machine.Table.{notes, step, taken, plan_step, turning_step}
-use Rattle.tree_specs.specs.Promises.Orderly.{Fits, accepts, drops, has_state_from, frees as tells_free}
-use Rattle.tree_specs.specs.Promises.Orderly.{asks_hook}
+use Rattle.tree_specs.specs.Promises.Orderly.{Fits, accepts, drops, has_state_from, frees as tells_free, asks_hook}
 use Rattle.tree_specs.specs.Promises.Grounded.{AsksHook}
 use Rattle.tree_specs.specs.Invariants.Sound.{AllWait, claim, claims, phases, Refers, Sound}
 use Rattle.tree_specs.specs.Invariants.Consistent.{IsConsistent, IsStacked, Serves}
 use Rattle.tree_specs.proofs.Tree.Numbered.{by_test, same-equal}
-use Rattle.tree_specs.proofs.Calls.Checks.{all-pass, Heard, HeardCall, HeardReturn, heard-leads}
-use Rattle.tree_specs.proofs.Calls.Plans.{MayWork, May, may-planned}
+use Rattle.tree_specs.proofs.Calls.Checks.{all-pass, Heard, HeardCall, HeardReturn, heard-leads, planned-at-by}
+use Rattle.tree_specs.proofs.Calls.Plans.{MayWork, May, may-planned-at}
 use Rattle.tree_specs.proofs.Calls.Changes.{follows}
 use Rattle.tree_specs.specs.Tree.Forest.{Distinct}
-use Rattle.tree_specs.specs.Calls.Plans.{Plan, plan, planned, unless_refused, changed_by, frees, replies, failure_in, failure_reply, progress_reply}
+use Rattle.tree_specs.specs.Calls.Plans.{Plan, plan, planned, unless_refused, changed_by, frees, replies, failure_in, failure_reply, progress_reply, planned_at}
 use Rattle.tree_specs.specs.Calls.Plans.Plan.{Does, Frees, Unlinks, Empties, Asks, Turns, Works}
+use Rattle.tree_specs.specs.Calls.Plans.Change.{Enter}
+use Rattle.tree_specs.specs.Calls.Passed.{IsUsable}
 use Rattle.tree_specs.specs.declared.request.Note.{Note}
 use Rattle.tree_specs.specs.declared.request.State.{State}
 use Rattle.tree_specs.specs.declared.request.State.TheVariants as state
@@ -61,7 +58,7 @@ use Rattle.tree_specs.proofs.Invariants.Changes.{running-row, claim-here}
 use Rattle.tree_specs.proofs.Promises.Later.{Later, later-same}
 use Rattle.tree_specs.proofs.Promises.Past.{Accounts, Past, past-goes, past-tells, unfreed, unaccepted}
 use Rattle.tree_specs.proofs.Promises.Causes.{NotedWork, told, IsFreeOf, IsAskedAs, IsHook, TurnsOrAsks, FreesBy, StandsOn, Stacked, IsCaused, IsAskedFor, Cause, NotHeld}
-use Rattle.tree_specs.proofs.Invariants.Waiters.{Waiter, ForFree, ForRun, ForChild, ForTurn, ForHandler, ForClear, ForRequest, ForServed, ForReceived, ForRoutine, ForRelease, waiter, ForDrained, ForEntry}
+use Rattle.tree_specs.proofs.Invariants.Waiters.{ForParting, Waiter, ForFree, ForRun, ForChild, ForTurn, ForHandler, ForClear, ForRequest, ForServed, ForReceived, ForRoutine, ForRelease, waiter, ForDrained, ForEntry}
 use Rattle.tree_specs.proofs.Calls.OwnRefusals.{AllOwn, own-refused, own-just-now, own-call}
 use Rattle.tree_specs.proofs.Promises.Fitting.{last-more, fits-replied, fits-quiet, fits-asked, fits-handler, fits-warned, fits-closed}
 use Rattle.tree_specs.proofs.Promises.Fine.{work_of, Known, FineBy, restacked, goes-on, waits-for, of-next, from-next, later-hook, AnswersTo, resumed, caused-turn, known-told, taken-noted}
@@ -241,6 +238,11 @@ caused-planned p c d refers = each (refusals p c) refl (own-refused p (tests c))
     each [] none own = caused p c none
     each (why ∷ rest) e own = λ scenes. (let h = own-call scenes p c why rest d refers e in (own-just-now (told scenes) p why own.0, h.0, h.1, h.2))
 
+-- a turn that is refused as nested needs no cause
+caused-nested : (q : Ask) (p : Pool) (c : Call) → is_nested q c ≡ true → CausedBy p c (replies (reply.No refusal.Nested))
+caused-nested (ask.Routine m) p (call.Turn x) e = λ scenes. (tt, tt, tt, tt)
+caused-nested q p c e = cc
+
 -- a turn that is nested has its reply told, and any other is waited for
 turning-fine : (scenes : List Scene) (q : Ask) (x : Obj) (c : Call) (b : Option CallStart) (ws : List NotedWork) (p : Pool) → IsUsable p x → Known scenes (with_note b (frame.Call (Doing q c))) ws p → TurnsOrAsks c
     → FineBy scenes (frame.Call (Doing q c)) b p (turning_step q x p) ws
@@ -293,4 +295,5 @@ module _ (scenes : List Scene) (q : Ask) (c : Call) (b : Option CallStart) (ws :
 
 pub doing-fine : (scenes : List Scene) (q : Ask) (c : Call) (b : Option CallStart) (ws : List NotedWork) (p : Pool) → Sound (frame.Call (Doing q c)) (map work_of ws) p
     → Known scenes (with_note b (frame.Call (Doing q c))) ws p → FineBy scenes (frame.Call (Doing q c)) b p (step (frame.Call (Doing q c)) p) ws
-doing-fine scenes q c b ws p s known = planned-next scenes q c b ws p known (planned p c) (may-planned (frame.Call (Doing q c)) (map work_of ws) p s c) (caused-planned p c s.forest.distinct s.refers)
+doing-fine scenes q c b ws p s known = planned-next scenes q c b ws p known (planned_at q p c) (may-planned-at (frame.Call (Doing q c)) (map work_of ws) p s q c)
+    (planned-at-by (CausedBy p c) q p c (caused-planned p c s.forest.distinct s.refers) (caused-nested q p c))

@@ -1,6 +1,5 @@
 -- Each step of a request's work, and of a free that waits for it, tells what is fine.
-use Rattle.tree_specs.specs.Promises.Grounded.{InContext}
-use Rattle.std.proofs.Common.{◌≡◌, ℕ, ◌≤◌, ◌<◌, List, [], ◌∷◌, ◌++◌, Option, Some, None, true, false, map, refl, ◌∙◌, arith}
+use Rattle.std.proofs.Common.{◌≡◌, ℕ, ◌≤◌, ◌<◌, List, [], ◌∷◌, ◌++◌, Option, Some, None, true, false, map, refl, ◌∙◌, arith, subst, sym}
 use Rattle.std.specs.Prelude.{not}
 use Rattle.std.specs.List.{list_any}
 use Rattle.step_machine.specs.Machine.{Move as Do}
@@ -44,7 +43,7 @@ use Rattle.tree_specs.specs.Rules.Errands.{reply_to, cancelled_reply}
 use Rattle.tree_specs.specs.Machine.Profiles.{InRun}
 use Rattle.tree_specs.specs.Machine.Table.{notes, step, over_step, cancelling_step, cleaning_step, release_object, cleaned_step, callback_step, notifying_step, request_step, vacating_step, triggering_step, deferred_step}
 use Rattle.tree_specs.specs.Promises.Orderly.{has_state_from, is_hook}
-use Rattle.tree_specs.specs.Promises.Grounded.{IsTurn, may_fire, may_fire_row}
+use Rattle.tree_specs.specs.Promises.Grounded.{InContext, IsTurn, may_fire, may_fire_row}
 use Rattle.tree_specs.specs.Invariants.Sound.{ValidAt, claims}
 use Rattle.tree_specs.specs.Invariants.Noted.{IsInProgress, IsBetween, IsOfRequest, NotesHold, IsForRequest}
 use Rattle.tree_specs.specs.Invariants.Queued.{IsEntryRow}

@@ -1,26 +1,17 @@
 -- The steps of a turn tell what is fine.
-use Rattle.tree_specs.specs.Promises.Grounded.{InContext, HasContext}
-use Rattle.tree_specs.specs.declared.moment.What.TheVariants as whats
-use Rattle.tree_specs.proofs.Invariants.Changes.{turning-row}
-use Rattle.tree_specs.specs.Invariants.Sound.{is_at_turn_mark, IsTurning, IsLive}
-use Rattle.tree_specs.specs.Calls.Refusals.{is_doomed}
-use Rattle.tree_specs.specs.Machine.Table.{closing_step}
-use Rattle.tree_specs.specs.Tree.Pool.{exit}
-use Rattle.tree_specs.specs.declared.row.Mark.{Mark}
-use Rattle.tree_specs.specs.declared.row.Mark.TheVariants.{Doomed}
-use Rattle.tree_specs.proofs.Promises.Later.{later-still}
-use Rattle.tree_specs.specs.declared.frame.TurnFrame.TheVariants.{Parting}
 use Rattle.std.proofs.Common.{◌≡◌, ℕ, List, [], ◌∷◌, ◌++◌, Option, Some, None, true, false, refl, sym, ◌∙◌, ap, subst, map}
 use Rattle.step_machine.specs.Machine.{Move as Do}
 use Rattle.step_machine.specs.Noted.{scene, with_note, noted_work}
 use Rattle.tree_specs.specs.declared.object.Obj.{Obj}
 use Rattle.tree_specs.specs.declared.row.Row.{Row}
-use Rattle.tree_specs.specs.declared.row.Mark.TheVariants.{Quiet, Busy}
+use Rattle.tree_specs.specs.declared.row.Mark.TheVariants.{Doomed, Quiet, Busy}
+use Rattle.tree_specs.specs.declared.row.Mark.{Mark}
 use Rattle.tree_specs.specs.declared.kind.Kind.{Kind}
 use Rattle.tree_specs.specs.declared.kind.Kind.TheVariants as kind
 use Rattle.tree_specs.specs.declared.handler.Handler.{Handler}
 use Rattle.tree_specs.specs.declared.moment.What.{What}
 use Rattle.tree_specs.specs.declared.moment.What.TheVariants.{Immediate as ForImmediate, Timer as ForTimer, Descriptor as ForDescriptor, Trigger as ForTrigger}
+use Rattle.tree_specs.specs.declared.moment.What.TheVariants as whats
 use Rattle.tree_specs.specs.declared.occasion.Occasion.{Occasion}
 use Rattle.tree_specs.specs.declared.event.Event.TheVariants.{Fired}
 use Rattle.tree_specs.specs.declared.question.Ask.{Ask}
@@ -31,27 +22,28 @@ use Rattle.tree_specs.specs.declared.frame.Frame.TheVariants as frame
 use Rattle.tree_specs.specs.declared.frame.CallFrame.TheVariants.{Asking}
 use Rattle.tree_specs.specs.declared.frame.FreeFrame.TheVariants.{Beginning}
 use Rattle.tree_specs.specs.declared.frame.TurnFrame.{TurnFrame}
-use Rattle.tree_specs.specs.declared.frame.TurnFrame.TheVariants.{Taking, Timing, Timed, Polling, Starting, Firing, Handling, Handled, Clearing, Serving, Closing}
+use Rattle.tree_specs.specs.declared.frame.TurnFrame.TheVariants.{Parting, Taking, Timing, Timed, Polling, Starting, Firing, Handling, Handled, Clearing, Serving, Closing}
 use Rattle.tree_specs.specs.declared.frame.Errand.TheVariants.{Finish, Notify}
 use Rattle.tree_specs.specs.declared.request.State.TheVariants.{TimedOut}
 use Rattle.tree_specs.specs.declared.frame.RequestFrame.TheVariants as request
 use Rattle.tree_specs.specs.declared.frame.Answer.TheVariants as answer
-use Rattle.tree_specs.specs.Tree.Pool.{Pool, row_of, changed, set_mark, marked_row}
+use Rattle.tree_specs.specs.Tree.Pool.{exit, Pool, row_of, changed, set_mark, marked_row}
 use Rattle.tree_specs.specs.Events.Coming.{comes_as, handler_for, handler_moment, begun, goes_after}
 use Rattle.tree_specs.specs.Rules.Items.{Item}
 use Rattle.tree_specs.specs.Rules.Items.Item.{Told, Asked}
 use Rattle.tree_specs.specs.Rules.Sequence.{CallStart, Scene}
-use Rattle.tree_specs.specs.Machine.Table.{Step, notes, taken, starting_step, turn_step, turn_taken}
+use Rattle.tree_specs.specs.Machine.Table.{closing_step, Step, notes, taken, starting_step, turn_step, turn_taken}
 use Rattle.tree_specs.specs.Promises.Orderly.{is_hook, asks_hook}
-use Rattle.tree_specs.specs.Promises.Grounded.{IsTurn, may_fire, may_fire_row}
+use Rattle.tree_specs.specs.Promises.Grounded.{InContext, HasContext, IsTurn, may_fire, may_fire_row}
 use Rattle.tree_specs.specs.Machine.Profiles.{InHandler}
-use Rattle.tree_specs.specs.Invariants.Sound.{claims}
+use Rattle.tree_specs.specs.Invariants.Sound.{is_at_turn_mark, IsTurning, IsLive, claims}
 use Rattle.tree_specs.specs.Invariants.Consistent.{IsConsistent}
+use Rattle.tree_specs.specs.Calls.Refusals.{is_doomed}
 use Rattle.tree_specs.proofs.Tree.Numbered.{by_test}
-use Rattle.tree_specs.proofs.Invariants.Changes.{handling-row, claim-here}
+use Rattle.tree_specs.proofs.Invariants.Changes.{turning-row, handling-row, claim-here}
 use Rattle.tree_specs.proofs.Invariants.Turning.{handler-ready, rotated-rows, Passes, Pass, Serve, look-passes, taken-plain, Trigger}
 use Rattle.tree_specs.proofs.Invariants.Waiters.{Waiter, ForRun}
-use Rattle.tree_specs.proofs.Promises.Later.{Later, later-rows, later-same, later-waiting, later-marked}
+use Rattle.tree_specs.proofs.Promises.Later.{later-still, Later, later-rows, later-same, later-waiting, later-marked}
 use Rattle.tree_specs.proofs.Promises.Past.{Past, Accounts, past-goes, past-tells, unfreed}
 use Rattle.tree_specs.proofs.Promises.Causes.{NotedWork, told, StandsOn, Cause}
 use Rattle.tree_specs.proofs.Promises.Fitting.{fits-fired, fits-question}

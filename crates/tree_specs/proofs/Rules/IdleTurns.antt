@@ -1,16 +1,7 @@
 -- A turn replies 0 exactly where nothing came.
-use Rattle.step_machine.specs.Machine.{Outcome}
-use Rattle.tree_specs.specs.Promises.Idle.{Remains}
-use Rattle.tree_specs.specs.Tree.Pool.{exit}
-use Rattle.tree_specs.specs.Calls.Refusals.{is_doomed}
-use Rattle.std.proofs.Common.{◌∙◌}
-use Rattle.tree_specs.specs.declared.coming.Coming.{Coming}
-use Rattle.tree_specs.specs.Tree.Pool.{soon_here}
-use Rattle.tree_specs.specs.Tree.Pool.{ring_here}
-use Rattle.tree_specs.specs.Tree.Pool.{times_here}
-use Rattle.std.proofs.Common.{◌≡◌, ℕ, suc, zero, ◌≤◌, ◌-◌, List, [], ◌∷◌, ◌++◌, Option, Some, None, Bool, true, false, nat_eq, nat_le, if◌then◌else◌, is_some, refl, sym, ap, subst, arith}
+use Rattle.std.proofs.Common.{◌∙◌, ◌≡◌, ℕ, suc, zero, ◌≤◌, ◌-◌, List, [], ◌∷◌, ◌++◌, Option, Some, None, Bool, true, false, nat_eq, nat_le, if◌then◌else◌, is_some, refl, sym, ap, subst, arith}
 use Rattle.std.proofs.lemmas.Bool.Decides.{nat_tests}
-use Rattle.step_machine.specs.Machine.{tell, followed}
+use Rattle.step_machine.specs.Machine.{Outcome, tell, followed}
 use Rattle.step_machine.specs.Machine.Outcome.{Ended, Stray}
 use Rattle.step_machine.proofs.Uses.{ended-tell, ended-followed}
 use Rattle.tree_specs.specs.declared.object.Obj.{Obj}
@@ -27,7 +18,7 @@ use Rattle.tree_specs.specs.declared.question.Input.TheVariants.{Clock, Ready as
 use Rattle.tree_specs.specs.declared.wants.Want.{Want}
 use Rattle.tree_specs.specs.Words.Ranges.{is_time}
 use Rattle.tree_specs.specs.Words.Wants.{is_wants}
-use Rattle.tree_specs.specs.Tree.Pool.{Pool, set_mark, unschedule, disarm}
+use Rattle.tree_specs.specs.Tree.Pool.{exit, soon_here, ring_here, times_here, Pool, set_mark, unschedule, disarm}
 use Rattle.tree_specs.specs.Events.Pending.{first}
 use Rattle.tree_specs.specs.Events.Rotation.{Ready, first_ready}
 use Rattle.tree_specs.specs.Events.Coming.{wait_limit, handler_for, handler_moment, at_time, with_flags, plainly, begun, goes_after, looks_again}
@@ -38,11 +29,13 @@ use Rattle.tree_specs.specs.Rules.Pieces.{comes}
 use Rattle.tree_specs.specs.declared.reply.Reply.{Reply}
 use Rattle.tree_specs.specs.declared.request.State.TheVariants.{TimedOut}
 use Rattle.tree_specs.specs.declared.frame.Errand.TheVariants.{Notify}
+use Rattle.tree_specs.specs.declared.coming.Coming.{Coming}
 use Rattle.tree_specs.specs.Events.Requests.{is_noted}
-use Rattle.tree_specs.specs.Promises.Idle.{IsEarly, NobodyReady, NothingCame, Untimed, Unwatched, Early}
+use Rattle.tree_specs.specs.Promises.Idle.{Remains, IsEarly, NobodyReady, NothingCame, Untimed, Unwatched, Early}
 use Rattle.tree_specs.proofs.Tree.Numbered.{by_test}
 use Rattle.tree_specs.proofs.Rules.Lawful.{scene_of}
 use Rattle.tree_specs.specs.Events.Queues.{has_queue}
+use Rattle.tree_specs.specs.Calls.Refusals.{is_doomed}
 
 -- ---- an event that comes is replied to by 1
 
@@ -261,9 +254,11 @@ replies n p _ left stays (Untimed ready soon none nobody) = each ready nobody
         (closed_by p.turning p, scene_of (Asked (ask.Wait wait_limit)) p ∷ [], rw (soon, none, once, nobody.none) (ap (tell (scene_of (Asked (ask.Wait wait_limit)) p)) (closing-is (suc (suc (suc (suc n)))) 0 p left stays)))
     each (w ∷ ws) nobody = (closed_by p.turning p, scene_of (Asked (ask.Wait wait_limit)) p ∷ [], rw (soon, none, nobody.sound, nobody.none) (ap (tell (scene_of (Asked (ask.Wait wait_limit)) p)) (closing-is (suc (suc (suc (suc n)))) 0 p left stays)))
 replies n p _ left stays (Unwatched d now w ready soon due early nobody) =
-    let t = early-tests d now early in
-    (closed_by p.turning p, scene_of (Asked ask.Clock) p ∷ scene_of (Asked (ask.Wait (d.time - now))) p ∷ [],
-    rw (soon, due, t.0, t.1, due, t.2, nobody.sound, nobody.none) (ap (λ (o : Outcome ℕ Pool Input Scene). tell (scene_of (Asked ask.Clock) p) (tell (scene_of (Asked (ask.Wait (d.time - now))) p) o)) (closing-is (suc (suc n)) 0 p left stays)))
+    let t = early-tests d now early in (
+      closed_by p.turning p,
+      scene_of (Asked ask.Clock) p ∷ scene_of (Asked (ask.Wait (d.time - now))) p ∷ [],
+      rw (soon, due, t.0, t.1, due, t.2, nobody.sound, nobody.none) (ap (λ (o : Outcome ℕ Pool Input Scene). tell (scene_of (Asked ask.Clock) p) (tell (scene_of (Asked (ask.Wait (d.time - now))) p) o)) (closing-is (suc (suc n)) 0 p left stays)),
+    )
 replies n p _ left stays (Early d now later soon due early before) =
     let t = early-tests d now early in
     let u = early-tests d later before in

@@ -1,11 +1,6 @@
 -- The laws of the story still to come.
-use Rattle.tree_specs.specs.declared.object.Obj.{Obj}
-use Rattle.tree_specs.specs.declared.frame.TurnFrame.TheVariants.{Closing}
-use Rattle.tree_specs.specs.Machine.Table.{closing_step, parting_step, deferred_step}
-use Rattle.tree_specs.specs.Calls.Refusals.{is_doomed}
 use Rattle.std.proofs.Common.{◌≡◌, ℕ, suc, zero, ◌+◌, ◌*◌, ◌<◌, ◌≤◌, List, [], ◌∷◌, length, Bool, true, false, Option, Some, None, refl, sym, ◌∙◌, ap, subst, arith}
-use Rattle.step_machine.specs.Machine.{Move, Outcome, State, silent, tell, given, asks, leads, rest, walk, items as told_by}
-use Rattle.step_machine.specs.Machine.{Move as Do}
+use Rattle.step_machine.specs.Machine.{Move, Outcome, State, silent, tell, given, asks, leads, rest, walk, items as told_by, Move as Do}
 use Rattle.step_machine.specs.Machine.Outcome.{Ended, Waits, Stray, Short}
 use Rattle.step_machine.specs.Open.{LastIs}
 use Rattle.step_machine.proofs.Ends.{NotShort, Leads, enough, rest-walk, rest-any, rest-step, rest-event, rest-question, rest-silent, rest-open, silent-leads}
@@ -15,7 +10,7 @@ use Rattle.tree_specs.specs.declared.frame.Frame.{Frame}
 use Rattle.tree_specs.specs.declared.frame.Frame.TheVariants as frame
 use Rattle.tree_specs.specs.declared.frame.CallFrame.TheVariants.{Asking, Doing, Awaiting, Turning, Requesting, Announcing, Telling, Returning}
 use Rattle.tree_specs.specs.declared.frame.TurnFrame.{TurnFrame}
-use Rattle.tree_specs.specs.declared.frame.TurnFrame.TheVariants.{Taking, Timing, Timed, Polling, Starting, Handled}
+use Rattle.tree_specs.specs.declared.frame.TurnFrame.TheVariants.{Closing, Taking, Timing, Timed, Polling, Starting, Handled}
 use Rattle.tree_specs.specs.declared.handler.Handler.{Handler}
 use Rattle.tree_specs.specs.declared.question.Ask.TheVariants.{Quiet, Clock, Wait}
 use Rattle.tree_specs.specs.Events.Coming.{handler_for, goes_after}
@@ -37,15 +32,16 @@ use Rattle.tree_specs.specs.declared.free_step.FreeStep.{FreeStep}
 use Rattle.tree_specs.specs.declared.event.Event.{Event}
 use Rattle.tree_specs.specs.declared.call.Call.{Call}
 use Rattle.tree_specs.specs.declared.question.Ask.{Ask}
+use Rattle.tree_specs.specs.declared.object.Obj.{Obj}
 use Rattle.tree_specs.specs.Tree.Pool.{Pool, run_queue}
 use Rattle.tree_specs.specs.Rules.Items.{Item, IsQuestion}
 use Rattle.tree_specs.specs.Rules.Items.Item.{Asked}
-use Rattle.tree_specs.specs.Calls.Plans.{Plan, planned, plan, unless_refused}
+use Rattle.tree_specs.specs.Calls.Plans.{Plan, planned, plan, unless_refused, planned_at}
 use Rattle.tree_specs.specs.Calls.Plans.Plan.{Does, Frees, Unlinks, Empties, Asks as AsksOutside, Turns, Works}
 use Rattle.tree_specs.specs.Rules.Story.{turns}
-use Rattle.tree_specs.specs.Calls.Refusals.{Check}
+use Rattle.tree_specs.specs.Calls.Refusals.{is_doomed, Check}
 use Rattle.tree_specs.specs.Machine.FreeTable.{free_step}
-use Rattle.tree_specs.specs.Machine.Table.{Step, call_step, turning_step, starting_step, handled_step, turn_step, outside_step, cancelling_step, cleaning_step, release_object, cleaned_step, callback_step, notifying_step, receiving_step, request_step, table, step, event_of, announced, plan_step, lifted, taken, vacating_step, triggering_step}
+use Rattle.tree_specs.specs.Machine.Table.{closing_step, parting_step, deferred_step, Step, call_step, turning_step, starting_step, handled_step, turn_step, outside_step, cancelling_step, cleaning_step, release_object, cleaned_step, callback_step, notifying_step, receiving_step, request_step, table, step, event_of, announced, plan_step, lifted, taken, vacating_step, triggering_step}
 use Rattle.tree_specs.specs.Invariants.Sound.{Sound, Rests}
 use Rattle.tree_specs.specs.Invariants.Noted.{Noted}
 use Rattle.tree_specs.specs.Invariants.Measure.{cost}
@@ -257,7 +253,7 @@ no-end (frame.Call (Awaiting ask x)) p q a h r e = r
 no-end (frame.Call (Turning ask)) p q a h r e = r
 no-end (frame.Call (Requesting ask)) p q a h r e = r
 no-end (frame.Call (Returning v)) p q a h r e = h
-no-end (frame.Call (Doing ask c)) p q a h r e = subst GoesOn e (plan-goes_on ask (planned p c) p)
+no-end (frame.Call (Doing ask c)) p q a h r e = subst GoesOn e (plan-goes_on ask (planned_at ask p c) p)
 no-end (frame.Call _) p q a h r e = cc
 no-end _ p q a h r e = h
 
@@ -361,7 +357,7 @@ pub waits-asking : (f : Frame) (p q : Pool) (i : Item) (g : Frame) → step f p 
 waits-asking (frame.Call (Asking ask)) p q i g e = (ask, cc)
 waits-asking (frame.Turn f) p q i g e = turn-asks f p q i g e
 waits-asking (frame.Outside f) p q i g e = outside-asks f p q i g e
-waits-asking (frame.Call (Doing ask c)) p q i g e = absurd (subst GoesOn e (plan-goes_on ask (planned p c) p))
+waits-asking (frame.Call (Doing ask c)) p q i g e = absurd (subst GoesOn e (plan-goes_on ask (planned_at ask p c) p))
 waits-asking (frame.Request f) p q i g e = absurd (work-asks f p q i g e)
 waits-asking (frame.Free f) p q i g e = absurd (free-waits p.ring (free_step f p) q i g e)
 waits-asking _ p q i g e = cc

@@ -1,11 +1,4 @@
 -- What is so of the works of a turn.
-use Rattle.tree_specs.specs.Tree.Pool.{exit}
-use Rattle.tree_specs.specs.Calls.Refusals.{is_doomed}
-use Rattle.tree_specs.proofs.Rules.Lawful.{ended-lawful}
-use Rattle.tree_specs.specs.Rules.Sequence.{gives}
-use Rattle.tree_specs.specs.Tree.Pool.{ring_here}
-use Rattle.tree_specs.specs.Tree.Pool.{times_here}
-use Rattle.tree_specs.specs.Tree.Pool.{soon_here}
 use Rattle.std.proofs.Common.{◌≡◌, ℕ, suc, nat_eq, List, Option, Some, None, true, false, refl, sym, subst}
 use Rattle.step_machine.specs.Machine.{followed}
 use Rattle.tree_specs.specs.declared.object.Obj.{Obj}
@@ -13,9 +6,9 @@ use Rattle.tree_specs.specs.declared.row.Mark.TheVariants as mark
 use Rattle.tree_specs.specs.declared.event.Event.TheVariants.{Fired}
 use Rattle.tree_specs.specs.declared.question.Ask.TheVariants as ask
 use Rattle.tree_specs.specs.declared.question.Input.{Input}
-use Rattle.tree_specs.specs.Tree.Pool.{Pool, set_mark, unschedule, disarm}
+use Rattle.tree_specs.specs.Tree.Pool.{exit, ring_here, times_here, soon_here, Pool, set_mark, unschedule, disarm}
 use Rattle.tree_specs.specs.Rules.Items.Item.{Told, Asked}
-use Rattle.tree_specs.specs.Rules.Sequence.{Work, asks}
+use Rattle.tree_specs.specs.Rules.Sequence.{gives, Work, asks}
 use Rattle.tree_specs.specs.Rules.Answers.{clocked, polled}
 use Rattle.tree_specs.specs.Rules.Story.{free, asked, taking, timing, timed, polling, starting, firing, handling, handled, closing, finishing, notifying, triggering}
 use Rattle.tree_specs.specs.Rules.Pieces.{comes}
@@ -27,18 +20,19 @@ use Rattle.tree_specs.specs.Promises.Acceptances.{returned_by}
 use Rattle.tree_specs.proofs.Tree.Numbered.{by_test}
 use Rattle.tree_specs.proofs.Calls.Checks.{clocked-by, polled-by}
 use Rattle.tree_specs.specs.declared.occasion.Occasion.{Occasion}
-use Rattle.tree_specs.specs.declared.coming.Coming.{Coming}
 use Rattle.tree_specs.specs.declared.due.Due.{Due}
 use Rattle.tree_specs.specs.declared.handler.Handler.{Handler}
 use Rattle.tree_specs.specs.declared.moment.What.{What}
 use Rattle.tree_specs.specs.declared.moment.What.TheVariants.{Immediate as ForImmediate, Timer as ForTimer, Descriptor as ForDescriptor}
 use Rattle.tree_specs.specs.declared.wants.Want.{Want}
+use Rattle.tree_specs.specs.declared.coming.Coming.{Coming}
 use Rattle.tree_specs.specs.Events.Pending.{first}
 use Rattle.tree_specs.specs.Events.Rotation.{Ready, first_ready}
 use Rattle.tree_specs.specs.Events.Coming.{wait_limit, handler_for, handler_moment, at_time, with_flags, plainly, begun, goes_after, looks_again}
 use Rattle.std.specs.Prelude.{Bool, nat_le, ◌-◌, if◌then◌else◌}
-use Rattle.tree_specs.proofs.Rules.Lawful.{Last, Lawful, Any, Said, same-lawful, told-lawful, followed-lawful, asks-lawful, Returned, scene_of, AllLawful}
+use Rattle.tree_specs.proofs.Rules.Lawful.{ended-lawful, Last, Lawful, Any, Said, same-lawful, told-lawful, followed-lawful, asks-lawful, Returned, scene_of, AllLawful}
 use Rattle.tree_specs.specs.Events.Queues.{has_queue}
+use Rattle.tree_specs.specs.Calls.Refusals.{is_doomed}
 
 pub clocked-lawful : (timed : ℕ → Work ℕ) (p : Pool) (last : Last) → ((now : ℕ) (l : Last) → Lawful l Any (timed now p)) → Lawful last Any (asks (Asked ask.Clock) (clocked timed) p)
 clocked-lawful timed p last h = asks-lawful last Any ask.Clock (clocked timed) p

@@ -1,6 +1,4 @@
 -- The measure against the number of turns.
-use Rattle.tree_specs.proofs.Turns.Lowering.{turning-most}
-use Rattle.tree_specs.specs.Invariants.Measure.{turning_cost}
 use Rattle.std.proofs.Common.{ℕ, ◌+◌, ◌*◌, ◌≤◌, ◌<◌, List, [], ◌∷◌, length, arith}
 use Rattle.tree_specs.specs.declared.object.Owner.TheVariants.{Of}
 use Rattle.tree_specs.specs.declared.row.Row.{Row}
@@ -28,10 +26,11 @@ use Rattle.tree_specs.specs.declared.frame.RequestFrame.TheVariants as request
 use Rattle.tree_specs.specs.Events.Requests.{Notes}
 use Rattle.tree_specs.proofs.Events.NoteLaws.{note_weight-most}
 use Rattle.tree_specs.specs.Tree.Inside.{total}
-use Rattle.tree_specs.specs.Invariants.Measure.{mark_weight, weight, below_cost, look_cost, top_cost, cost, pending}
+use Rattle.tree_specs.specs.Invariants.Measure.{turning_cost, mark_weight, weight, below_cost, look_cost, top_cost, cost, pending}
 use Rattle.tree_specs.proofs.Tree.Rows.{count-length}
 use Rattle.tree_specs.proofs.Turns.FallingFrees.{kids-most}
-use Rattle.tree_specs.proofs.Turns.Load.{mark_deposit-most}
+use Rattle.tree_specs.proofs.Turns.LoadFrees.{mark_deposit-most}
+use Rattle.tree_specs.proofs.Turns.Lowering.{turning-most}
 
 -- ---- the measure against the number of turns
 

@@ -1,6 +1,4 @@
 -- Each step of a free lowers the measure.
-use Rattle.tree_specs.proofs.Invariants.Waiters.{ForParting}
-use Rattle.tree_specs.specs.declared.frame.TurnFrame.TheVariants.{Parting}
 use Rattle.std.specs.Prelude.{unwrap_or}
 use Rattle.tree_specs.specs.Machine.Profiles.{InRun, InLoop, tried_cost}
 use Rattle.tree_specs.specs.declared.frame.FreeFrame.{FreeFrame}
@@ -18,7 +16,7 @@ use Rattle.tree_specs.specs.declared.event.Event.{Event}
 use Rattle.tree_specs.specs.declared.frame.Frame.{Frame}
 use Rattle.tree_specs.specs.declared.frame.Frame.TheVariants as frame
 use Rattle.tree_specs.specs.declared.frame.CallFrame.TheVariants.{Awaiting}
-use Rattle.tree_specs.specs.declared.frame.TurnFrame.TheVariants.{Clearing}
+use Rattle.tree_specs.specs.declared.frame.TurnFrame.TheVariants.{Parting, Clearing}
 use Rattle.tree_specs.specs.declared.frame.FreeFrame.TheVariants.{Unlinking, Releasing, Giving, Beginning, Hooked, Judged, Preparing, Prepared, Dooming, Leaving, Looping, FreeingChild, AfterChild, Ending, Draining}
 use Rattle.tree_specs.specs.declared.frame.Purpose.{Purpose}
 use Rattle.tree_specs.specs.declared.frame.Purpose.TheVariants.{Removal, Emptying}
@@ -29,7 +27,6 @@ use Rattle.tree_specs.specs.declared.kind.Kind.TheVariants as kind
 use Rattle.tree_specs.specs.declared.free_step.FreeReply.{FreeReply}
 use Rattle.tree_specs.specs.declared.free_step.FreeReply.TheVariants.{Ok, Running, Refused, Held}
 use Rattle.std.proofs.Math.Nat.{mul-le-mul_left}
-use Rattle.tree_specs.specs.declared.frame.RequestFrame.TheVariants as request
 use Rattle.tree_specs.specs.Events.Requests.{without_note}
 use Rattle.tree_specs.specs.Calls.Refusals.{is_request, is_queue, is_entry}
 use Rattle.tree_specs.specs.Words.Objects.{same_owner}
@@ -44,7 +41,7 @@ use Rattle.tree_specs.proofs.Tree.Heirs.{heir-other}
 use Rattle.tree_specs.specs.Tree.Inside.{total}
 use Rattle.tree_specs.specs.Invariants.Measure.{count, mark_weight, weight, row_worth, waiting_cost, top_cost, cost, below_wants, pending}
 use Rattle.tree_specs.proofs.Tree.Rows.{total-without, total-placed, total-changed, total-length, count-length}
-use Rattle.tree_specs.proofs.Invariants.Waiters.{Waiter, ForFree, ForChild, ForClear, ForRelease, waiter, ForEntry}
+use Rattle.tree_specs.proofs.Invariants.Waiters.{ForParting, Waiter, ForFree, ForChild, ForClear, ForRelease, waiter, ForEntry}
 use Rattle.tree_specs.proofs.Invariants.Changes.{dying-row, running-row, claim-here, owned-row, heir-placed}
 use Rattle.tree_specs.proofs.Turns.Lowering.{Room, Lowers, done-lower, ending-lower, length-changed, length-without, total-kept, marked-weight, removed-weight, live-weight}
 use Rattle.tree_specs.proofs.Invariants.KeptFrees.{elsewhere}

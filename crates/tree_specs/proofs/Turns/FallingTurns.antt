@@ -1,22 +1,10 @@
 -- Each step of a turn lowers the measure.
-use Rattle.std.proofs.Common.{[]}
-use Rattle.std.proofs.Common.{◌≤◌}
-use Rattle.std.proofs.Common.{true}
-use Rattle.std.proofs.Common.{true}
-use Rattle.tree_specs.proofs.Invariants.Changes.{turning-row}
-use Rattle.tree_specs.specs.Invariants.Sound.{is_at_turn_mark, IsTurning, IsLive}
-use Rattle.tree_specs.specs.Calls.Refusals.{is_doomed}
-use Rattle.tree_specs.specs.Machine.Table.{closing_step}
-use Rattle.tree_specs.specs.Tree.Pool.{exit, row_of, marked_row}
-use Rattle.tree_specs.specs.Invariants.Measure.{turning_cost}
-use Rattle.tree_specs.specs.declared.row.Mark.{Mark}
-use Rattle.tree_specs.specs.declared.row.Mark.TheVariants.{Busy, Doomed, Quiet}
-use Rattle.tree_specs.specs.declared.row.Row.{Row}
-use Rattle.tree_specs.specs.Tree.Inside.{total}
-use Rattle.std.proofs.Common.{◌≡◌, ℕ, suc, zero, ◌+◌, ◌*◌, ◌<◌, List, ◌∷◌, Option, Some, None, refl, sym, ap, subst, arith}
+use Rattle.std.proofs.Common.{[], ◌≤◌, true, ◌≡◌, ℕ, suc, zero, ◌+◌, ◌*◌, ◌<◌, List, ◌∷◌, Option, Some, None, refl, sym, ap, subst, arith}
 use Rattle.step_machine.specs.Machine.{Move as Do}
 use Rattle.tree_specs.specs.declared.object.Obj.{Obj}
-use Rattle.tree_specs.specs.declared.row.Mark.TheVariants.{Quiet, Busy}
+use Rattle.tree_specs.specs.declared.row.Mark.TheVariants.{Busy, Doomed, Quiet}
+use Rattle.tree_specs.specs.declared.row.Mark.{Mark}
+use Rattle.tree_specs.specs.declared.row.Row.{Row}
 use Rattle.tree_specs.specs.declared.handler.Handler.{Handler}
 use Rattle.tree_specs.specs.declared.moment.What.{What}
 use Rattle.tree_specs.specs.declared.frame.Frame.{Frame}
@@ -33,15 +21,17 @@ use Rattle.tree_specs.specs.declared.frame.Answer.{Answer}
 use Rattle.tree_specs.specs.declared.frame.Answer.TheVariants.{Turned, Heard}
 use Rattle.tree_specs.specs.declared.reply.Reply.TheVariants.{Number}
 use Rattle.tree_specs.specs.declared.occasion.Occasion.{Occasion}
-use Rattle.tree_specs.specs.Tree.Pool.{Pool, row_of, marked_row, open_descriptor}
+use Rattle.tree_specs.specs.Tree.Pool.{exit, row_of, marked_row, Pool, open_descriptor}
+use Rattle.tree_specs.specs.Tree.Inside.{total}
 use Rattle.tree_specs.specs.Events.Coming.{handler_for, goes_after}
 use Rattle.tree_specs.specs.Machine.Profiles.{InHandler, turn_profile}
-use Rattle.tree_specs.specs.Machine.Table.{Step, resume, starting_step, turn_step, outside_step}
-use Rattle.tree_specs.specs.Invariants.Sound.{claims, footing, AllWait, IsTurned, Sound}
-use Rattle.tree_specs.specs.Invariants.Measure.{mark_weight, weight, row_worth, waiting_cost, top_cost, cost, pending}
+use Rattle.tree_specs.specs.Machine.Table.{closing_step, Step, resume, starting_step, turn_step, outside_step}
+use Rattle.tree_specs.specs.Invariants.Sound.{is_at_turn_mark, IsTurning, IsLive, claims, footing, AllWait, IsTurned, Sound}
+use Rattle.tree_specs.specs.Invariants.Measure.{turning_cost, mark_weight, weight, row_worth, waiting_cost, top_cost, cost, pending}
+use Rattle.tree_specs.specs.Calls.Refusals.{is_doomed}
 use Rattle.tree_specs.proofs.Tree.Numbered.{by_test}
 use Rattle.tree_specs.proofs.Calls.Checks.{Reached, ReachedOpening, ReachedHearing, reached-leads}
-use Rattle.tree_specs.proofs.Invariants.Changes.{handling-row, claim-here}
+use Rattle.tree_specs.proofs.Invariants.Changes.{turning-row, handling-row, claim-here}
 use Rattle.tree_specs.proofs.Invariants.Turning.{handler-ready, rotated-rows, IsPlain, Passes, Pass, Serve, look-passes, taken-plain, Trigger}
 use Rattle.tree_specs.proofs.Turns.Lowering.{Lowers, Room, done-lower, total-kept, length-changed, marked-weight, live-weight}
 

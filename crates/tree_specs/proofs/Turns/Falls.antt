@@ -1,13 +1,7 @@
 -- Each step lowers the measure.
-use Rattle.tree_specs.proofs.Turns.Lowering.{turning-most}
-use Rattle.tree_specs.specs.Invariants.Measure.{turning_cost}
-use Rattle.tree_specs.specs.Calls.Plans.Change.{Enter}
-use Rattle.tree_specs.specs.Tree.Pool.{enter}
-use Rattle.tree_specs.specs.Calls.Passed.{IsUsable}
 use Rattle.std.proofs.Common.{◌≡◌, ◌≤◌, ◌+◌, ◌*◌, ℕ, suc, zero, ◌<◌, List, [], ◌∷◌, length, Some, None, arith}
 use Rattle.std.proofs.Math.Nat.{mul-le-mul_left}
-use Rattle.step_machine.specs.Machine.{Move}
-use Rattle.step_machine.specs.Machine.{Move as Do}
+use Rattle.step_machine.specs.Machine.{Move, Move as Do}
 use Rattle.step_machine.proofs.Ends.{Leads, Falls}
 use Rattle.tree_specs.specs.declared.object.Owner.TheVariants.{Of}
 use Rattle.tree_specs.specs.declared.call.Call.{Call}
@@ -17,25 +11,27 @@ use Rattle.tree_specs.specs.declared.frame.Frame.{Frame}
 use Rattle.tree_specs.specs.declared.frame.Frame.TheVariants as frame
 use Rattle.tree_specs.specs.declared.frame.CallFrame.TheVariants.{Announcing, Telling, Asking, Doing, Returning}
 use Rattle.tree_specs.specs.declared.frame.Answer.{Answer}
-use Rattle.tree_specs.specs.Tree.Pool.{Pool}
+use Rattle.tree_specs.specs.Tree.Pool.{enter, Pool}
 use Rattle.tree_specs.specs.Rules.Items.{Item}
 use Rattle.tree_specs.specs.declared.object.Obj.{Obj}
 use Rattle.tree_specs.specs.declared.frame.Errand.{Errand}
 use Rattle.tree_specs.specs.declared.frame.Errand.TheVariants.{Finish, Notify, Receive, Cancel}
-use Rattle.tree_specs.specs.Calls.Plans.{Change, Plan, planned, changed_by}
+use Rattle.tree_specs.specs.Calls.Plans.{Change, Plan, changed_by, planned_at}
 use Rattle.tree_specs.specs.Calls.Plans.Plan.{Does, Frees, Unlinks, Empties, Asks, Turns, Works}
+use Rattle.tree_specs.specs.Calls.Plans.Change.{Enter}
+use Rattle.tree_specs.specs.Calls.Passed.{IsUsable}
 use Rattle.tree_specs.specs.Machine.Table.{table, step, plan_step, turning_step}
 use Rattle.tree_specs.specs.Invariants.Sound.{Sound}
 use Rattle.tree_specs.specs.Tree.Inside.{total}
-use Rattle.tree_specs.specs.Invariants.Measure.{weight, row_worth, cost}
+use Rattle.tree_specs.specs.Invariants.Measure.{turning_cost, weight, row_worth, cost}
 use Rattle.tree_specs.proofs.Tree.Rows.{count-length}
-use Rattle.tree_specs.proofs.Calls.Plans.{MayWork, May, may-planned}
+use Rattle.tree_specs.proofs.Calls.Plans.{MayWork, May, may-planned-at}
 use Rattle.tree_specs.proofs.Calls.Changes.{MayDo, added, heavier, follows}
 use Rattle.tree_specs.specs.Invariants.Noted.{Noted}
 use Rattle.tree_specs.proofs.Invariants.Keeps.{sound-kept}
 use Rattle.tree_specs.proofs.Invariants.KeptNotes.{noted-kept}
 use Rattle.tree_specs.proofs.Turns.FallingFrees.{free-lower}
-use Rattle.tree_specs.proofs.Turns.Lowering.{Lowers, Room, asking-lower, returning-lower}
+use Rattle.tree_specs.proofs.Turns.Lowering.{turning-most, Lowers, Room, asking-lower, returning-lower}
 use Rattle.tree_specs.proofs.Turns.FallingTurns.{turn-lower, outside-lower}
 use Rattle.tree_specs.proofs.Turns.FallingRequests.{request-lower}
 use Rattle.tree_specs.specs.Invariants.Queued.{Queued}
@@ -89,7 +85,7 @@ planned-lower R q c fs p k room (Works change errand x) may = work-lower R q c f
 -- every step lowers the measure
 pub lower : (R : ℕ) (f : Frame) (fs : List Frame) (p : Pool) (k : ℕ) → Sound f fs p → Noted f p → Room R f p k → Lowers R (cost R f fs p k) (step f p) fs k
 lower R (frame.Call (Asking q)) fs p k s noted room = asking-lower R q fs p k room
-lower R (frame.Call (Doing q c)) fs p k s noted room = planned-lower R q c fs p k room (planned p c) (may-planned (frame.Call (Doing q c)) fs p s c)
+lower R (frame.Call (Doing q c)) fs p k s noted room = planned-lower R q c fs p k room (planned_at q p c) (may-planned-at (frame.Call (Doing q c)) fs p s q c)
 lower R (frame.Call (Returning v)) fs p k s noted room = returning-lower R v fs p k s room
 lower R (frame.Free f) fs p k s noted room = free-lower R f fs p k s room
 lower R (frame.Call (Announcing q notice r)) fs p k s noted room = (omega arith, omega arith)

@@ -1,11 +1,7 @@
 -- What lowers the measure: works that end, and what rows weigh.
-use Rattle.tree_specs.specs.Invariants.Measure.{turning_cost}
-use Rattle.std.specs.Prelude.{Option, Some, None}
-use Rattle.tree_specs.specs.declared.object.Obj.{Obj}
-use Rattle.tree_specs.proofs.Invariants.Waiters.{ForParting}
 use Rattle.std.proofs.Common.{◌≡◌, ℕ, suc, zero, ◌+◌, ◌*◌, ◌≤◌, ◌<◌, List, [], ◌∷◌, length, Some, refl, ap, arith}
-use Rattle.step_machine.specs.Machine.{Move}
-use Rattle.step_machine.specs.Machine.{Move as Do}
+use Rattle.std.specs.Prelude.{Option, Some, None}
+use Rattle.step_machine.specs.Machine.{Move, Move as Do}
 use Rattle.step_machine.proofs.Ends.{Leads}
 use Rattle.tree_specs.specs.declared.object.Obj.{Obj}
 use Rattle.tree_specs.specs.declared.object.Owner.TheVariants.{Of}
@@ -36,9 +32,9 @@ use Rattle.tree_specs.specs.Invariants.Sound.{IsWaiting, AllWait, IsLive, IsOver
 use Rattle.tree_specs.proofs.Tree.Numbered.{by_test}
 use Rattle.tree_specs.proofs.Calls.Checks.{Heard, HeardCall, HeardReturn, heard-leads}
 use Rattle.tree_specs.specs.Tree.Inside.{total}
-use Rattle.tree_specs.specs.Invariants.Measure.{mark_weight, note_weight, weight, waiting_cost, top_cost, cost, pending}
+use Rattle.tree_specs.specs.Invariants.Measure.{turning_cost, mark_weight, note_weight, weight, waiting_cost, top_cost, cost, pending}
 use Rattle.tree_specs.proofs.Tree.Rows.{total-without, total-changed, total-length, count-length}
-use Rattle.tree_specs.proofs.Invariants.Waiters.{Waiter, ForFree, ForRun, ForChild, ForTurn, ForHandler, ForClear, ForRequest, ForServed, ForReceived, ForRoutine, ForRelease, waiter, ForDrained, ForEntry}
+use Rattle.tree_specs.proofs.Invariants.Waiters.{ForParting, Waiter, ForFree, ForRun, ForChild, ForTurn, ForHandler, ForClear, ForRequest, ForServed, ForReceived, ForRoutine, ForRelease, waiter, ForDrained, ForEntry}
 
 -- R bounds the rows that there can be
 abbrev pub Room : ℕ → Frame → Pool → ℕ → Type 0

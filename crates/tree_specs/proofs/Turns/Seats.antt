@@ -1,11 +1,8 @@
 -- Which work may take the place of another, and what it weighs there.
-use Rattle.tree_specs.specs.declared.frame.TurnFrame.TheVariants.{Parting}
-use Rattle.tree_specs.proofs.Invariants.Waiters.{ForParting}
 use Rattle.tree_specs.specs.declared.frame.RequestFrame.{RequestFrame}
 use Rattle.tree_specs.specs.declared.frame.RequestFrame.TheVariants as request
 use Rattle.std.proofs.Common.{◌≡◌, ℕ, ◌+◌, ◌≤◌, List, [], ◌∷◌, refl, arith}
-use Rattle.step_machine.specs.Machine.{Move}
-use Rattle.step_machine.specs.Machine.{Move as Do}
+use Rattle.step_machine.specs.Machine.{Move, Move as Do}
 use Rattle.step_machine.proofs.Ends.{Leads}
 use Rattle.tree_specs.specs.declared.call.Call.{Call}
 use Rattle.tree_specs.specs.declared.question.Ask.{Ask}
@@ -15,7 +12,7 @@ use Rattle.tree_specs.specs.declared.frame.Frame.{Frame}
 use Rattle.tree_specs.specs.declared.frame.Frame.TheVariants as frame
 use Rattle.tree_specs.specs.declared.frame.CallFrame.TheVariants.{Doing, Awaiting, Turning, Requesting, Telling}
 use Rattle.tree_specs.specs.declared.frame.TurnFrame.{TurnFrame}
-use Rattle.tree_specs.specs.declared.frame.TurnFrame.TheVariants.{Taking, Handling, Clearing, Serving}
+use Rattle.tree_specs.specs.declared.frame.TurnFrame.TheVariants.{Parting, Taking, Handling, Clearing, Serving}
 use Rattle.tree_specs.specs.declared.frame.FreeFrame.{FreeFrame}
 use Rattle.tree_specs.specs.declared.frame.FreeFrame.TheVariants.{Hooked, Preparing, FreeingChild, Draining}
 use Rattle.tree_specs.specs.declared.frame.Answer.{Answer}
@@ -26,7 +23,7 @@ use Rattle.tree_specs.specs.Invariants.Sound.{AllWait}
 use Rattle.tree_specs.specs.Machine.Profiles.{profile}
 use Rattle.tree_specs.specs.Rules.Answers.{later}
 use Rattle.tree_specs.specs.Invariants.Consistent.{IsQuiet, IsOfRoutine, IsCaller, IsRun, IsFree, IsTurn, IsWork, Server, ByRun, ByTurn, ByRequest, ByFree, server, IsBy, MayStandOn, IsStacked, size, innermost_size, IsPaidFor}
-use Rattle.tree_specs.proofs.Invariants.Waiters.{Waiter, ForFree, ForRun, ForChild, ForTurn, ForHandler, ForClear, ForRequest, ForServed, ForReceived, ForDrained, ForRoutine, ForRelease, ForEntry, waiter}
+use Rattle.tree_specs.proofs.Invariants.Waiters.{ForParting, Waiter, ForFree, ForRun, ForChild, ForTurn, ForHandler, ForClear, ForRequest, ForServed, ForReceived, ForDrained, ForRoutine, ForRelease, ForEntry, waiter}
 
 -- what a move leads to stands where it may, and is light
 abbrev pub Placed : Move Frame Answer Pool Item → List Frame → ℕ → Type 0

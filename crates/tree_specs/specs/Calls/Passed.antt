@@ -7,11 +7,11 @@ use Rattle.tree_specs.specs.declared.row.Row.{Row}
 use Rattle.tree_specs.specs.declared.test.Test.{Test}
 use Rattle.tree_specs.specs.declared.test.Test.TheVariants.{IsSmall, IsObject, IsOwner, IsPlain, IsImmediate, IsDescriptor, IsRequest, IsQueue, IsContext, IsMovable, IsReferable, IsOpen, IsUnwatched, HasRoom, HasNumber, IsInProgress, IsFinished, MayFail, Fits, MayGrow, IsNotDying, IsNotGoing, IsNotDoomed, IsNotRunning, IsNotInside, IsUnheld, IsUnreferenced, IsInterested, MayGive}
 use Rattle.tree_specs.specs.Tree.Targets.{target_of}
-use Rattle.tree_specs.specs.Words.Objects.{same, first_context}
 use Rattle.tree_specs.specs.Tree.Pool.{Pool, row_of, is_context_row, is_usable_row, is_owner, is_below, owner_of, newest_ref_of, is_dying, is_inside}
 use Rattle.tree_specs.specs.Tree.Reports.{count_refs}
 use Rattle.tree_specs.specs.Events.Rotation.{is_watched}
 use Rattle.tree_specs.specs.Calls.Refusals.{size_limit, row_limit, is_plain_row, is_immediate_row, is_descriptor_row, is_request_row, is_queue_row, is_entry_row, is_referable_row, in_progress, finished, failing, is_open, is_held, is_going, is_doomed, is_running, fits, growing}
+use Rattle.tree_specs.specs.Words.Objects.{same, first_context}
 
 -- an interest is an owner's, or of one that has a reference
 pub data Interest (p : Pool) (o : Owner) (x : Obj) : Type 0 where

@@ -24,14 +24,14 @@ use Rattle.tree_specs.specs.declared.reply.Reply.TheVariants.{Ok, Number, Pair, 
 use Rattle.tree_specs.specs.Words.Objects.{owner_number}
 use Rattle.tree_specs.specs.Tree.Targets.{newest_ref}
 use Rattle.tree_specs.specs.Tree.Pool.{Pool, changed, is_below, owner_of, newest_ref_of, add, place, named_row, hooked_row, sized_row, limited_row, set_handler, schedule, unschedule, arm, watch, rewatch, close_descriptor, take_number, add_request, renote, run_queue, add_queue, add_entry, look_at, enter}
-use Rattle.tree_specs.specs.Events.Pending.{soon_in, times_in}
 use Rattle.tree_specs.specs.Events.Rotation.{flags_of, flagged, closing, ring_in}
 use Rattle.tree_specs.specs.Events.Requests.{state_number, is_in_progress, note_of, called_back, deferring, cleaned_by, cancelled_by, failed_with}
 use Rattle.tree_specs.specs.Events.Queues.{runs, length_of}
+use Rattle.tree_specs.specs.Events.Pending.{soon_in, times_in}
 use Rattle.tree_specs.specs.Tree.Inside.{size_inside, count_inside}
 use Rattle.tree_specs.specs.Tree.Sums.{sum_inside}
 use Rattle.tree_specs.specs.Tree.Reports.{report}
-use Rattle.tree_specs.specs.Calls.Refusals.{Check, refusals}
+use Rattle.tree_specs.specs.Calls.Refusals.{Check, refusals, refusals_at}
 
 -- what is done to the objects
 pub data Change : Type 0 where
@@ -258,6 +258,10 @@ unless_refused (why ∷ later) plan = replies (No why)
 
 abbrev pub planned : Pool → Call → Plan
 planned p c = unless_refused (refusals p c) (plan p c)
+
+-- so it is where it is given at this question
+abbrev pub planned_at : Ask → Pool → Call → Plan
+planned_at q p c = unless_refused (refusals_at q p c) (plan p c)
 
 -- what is told before the reply
 abbrev pub notice_of : Plan → Option Notice

@@ -13,18 +13,20 @@ use Rattle.tree_specs.specs.declared.row.Mark.{Mark}
 use Rattle.tree_specs.specs.declared.row.Mark.TheVariants as mark
 use Rattle.tree_specs.specs.declared.call.Call.{Call}
 use Rattle.tree_specs.specs.declared.call.Call.TheVariants.{New, Free, Freekids, Steal, Move, Reparent, Reference as Refer, Unlink, Hook, Unhook, Rename, Resize, Limit, Parent, Total, Count, Sum, Report, Context, Immediate, Schedule, Unschedule, Timer, Fd, Flags, Getflags, Autoclose, Close, Accept, Read, Write, Req, Callback, Defer, Cleanup, Setcancel, Cancel, Post, Done, Error, Oom, Iserror, Progress, Endtime, Received, Queue, Enqueue, Start, Stop, Length, Running as IsRunning, Pending, Now, Turn}
+use Rattle.tree_specs.specs.declared.question.Ask.{Ask}
+use Rattle.tree_specs.specs.declared.question.Ask.TheVariants.{Routine}
 use Rattle.tree_specs.specs.declared.test.Test.{Test}
 use Rattle.tree_specs.specs.declared.test.Test.TheVariants.{IsSmall, IsObject, IsOwner, IsPlain, IsImmediate, IsDescriptor, IsRequest, IsQueue, IsContext, IsMovable, IsReferable, IsOpen, IsUnwatched, HasRoom, HasNumber, IsInProgress, IsFinished, MayFail, Fits, MayGrow, IsNotDying, IsNotGoing, IsNotDoomed, IsNotRunning, IsNotInside, IsUnheld, IsUnreferenced, IsInterested, MayGive}
 use Rattle.tree_specs.specs.declared.reply.Refusal.{Refusal}
-use Rattle.tree_specs.specs.declared.reply.Refusal.TheVariants.{NoSuch, WrongKind, Running, Held, NotParent, Loop, Dying, OverLimit, Full, Spent, InUse, BadState, TooBig}
+use Rattle.tree_specs.specs.declared.reply.Refusal.TheVariants.{NoSuch, WrongKind, Running, Held, NotParent, Loop, Dying, OverLimit, Full, Spent, InUse, BadState, TooBig, Nested}
 use Rattle.tree_specs.specs.Tree.Pool.{Pool, row_of, passes, is_context_row, is_usable_row, is_below, owner_of, newest_ref_of, is_dying_mark, is_dying, is_inside}
 use Rattle.tree_specs.specs.Tree.Targets.{is_reference}
-use Rattle.tree_specs.specs.Words.Objects.{same, first_context}
 use Rattle.tree_specs.specs.Events.Rotation.{is_watched}
 use Rattle.tree_specs.specs.Events.Descriptors.{is_open_in}
 use Rattle.tree_specs.specs.Events.Requests.{state_number, is_in_progress, is_received, note_of}
 use Rattle.tree_specs.specs.Tree.Reports.{count_refs}
 use Rattle.tree_specs.specs.Tree.Sums.{overhead, sum_inside, limit_at, size_at}
+use Rattle.tree_specs.specs.Words.Objects.{same, first_context}
 
 -- the size of an object is below this, in bytes
 abbrev pub size_limit : ℕ
@@ -382,3 +384,14 @@ refused p (t ∷ u ∷ ts) = refusal_of p t before refused p (u ∷ ts)
 
 abbrev pub refusals : Pool → Call → Check
 refusals p c = refused p (tests c)
+
+-- ---- where a call is given
+
+-- a turn is for the host's own caller alone, since a routine that runs may be in one
+abbrev pub is_nested : Ask → Call → Bool
+is_nested (Routine m) (Turn c) = true
+is_nested q c = false
+
+-- the refusals of a call that is given at this question
+abbrev pub refusals_at : Ask → Pool → Call → Check
+refusals_at q p c = refuse_if (is_nested q c) Nested before refusals p c

@@ -14,11 +14,11 @@ use Rattle.tree_specs.specs.declared.moment.What.TheVariants.{Timer, Immediate, 
 use Rattle.tree_specs.specs.declared.occasion.Occasion.{Occasion}
 use Rattle.tree_specs.specs.declared.wants.Want.{Want}
 use Rattle.tree_specs.specs.Tree.Pool.{Pool, row_of, passes, set_mark, turn_back, times_here}
+use Rattle.tree_specs.specs.Tree.Targets.{is_context}
 use Rattle.tree_specs.specs.Events.Handlers.{handler_of}
 use Rattle.tree_specs.specs.Events.Pending.{first}
 use Rattle.tree_specs.specs.Calls.Refusals.{is_doomed}
 use Rattle.tree_specs.specs.Words.Objects.{same, first_context}
-use Rattle.tree_specs.specs.Tree.Targets.{is_context}
 
 -- how long is waited for descriptors where no event has a time
 abbrev pub wait_limit : ℕ

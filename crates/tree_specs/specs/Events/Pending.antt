@@ -1,9 +1,9 @@
 -- What waits for its turn: objects that come soon, and objects whose time comes.
 use Rattle.std.specs.Prelude.{ℕ, Bool, ◌&&◌, ◌||◌, not, nat_eq, nat_lt, List, [], ◌∷◌, ◌++◌, is_some, Option, Some, None, if◌then◌else◌}
 use Rattle.std.specs.List.{find, filter}
-use Rattle.tree_specs.specs.declared.coming.Coming.{Coming}
 use Rattle.tree_specs.specs.declared.due.Due.{Due}
 use Rattle.tree_specs.specs.declared.object.Obj.{Obj}
+use Rattle.tree_specs.specs.declared.coming.Coming.{Coming}
 use Rattle.tree_specs.specs.Words.Objects.{same}
 
 -- the first that waits

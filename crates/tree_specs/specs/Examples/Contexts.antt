@@ -51,6 +51,7 @@ requests_in_contexts =
     ("call turn 0", "ask wait 30000000") ∷
     ("ready", "reply 0") ∷
     ("call turn 1", "fired callback 2 16\nask callback 2 16 5 0 0 0") ∷
+    ("act turn 9", "reply no 15\nask callback 2 16 5 0 0 1") ∷
     ("ret 0", "reply 1") ∷
     ("call defer 2 1", "reply ok") ∷
     ("call post 2 0", "reply ok") ∷

@@ -7,21 +7,21 @@ use Rattle.tree_specs.specs.declared.object.Obj.{Obj}
 use Rattle.tree_specs.specs.declared.row.Row.{Row}
 use Rattle.tree_specs.specs.declared.handler.Handler.{Handler}
 use Rattle.tree_specs.specs.declared.moment.What.{What}
-use Rattle.tree_specs.specs.declared.coming.Coming.{Coming}
-use Rattle.tree_specs.specs.declared.due.Due.{Due}
 use Rattle.tree_specs.specs.declared.watch.Watch.{Watch}
 use Rattle.tree_specs.specs.declared.moment.What.TheVariants.{Timer, Immediate, Descriptor}
 use Rattle.tree_specs.specs.declared.kind.Kind.{Kind}
 use Rattle.tree_specs.specs.declared.kind.Kind.TheVariants as kind
-use Rattle.tree_specs.specs.Words.Objects.{same, is_same, first_context}
-use Rattle.tree_specs.specs.Tree.Targets.{is_context}
+use Rattle.tree_specs.specs.declared.coming.Coming.{Coming}
+use Rattle.tree_specs.specs.declared.due.Due.{Due}
 use Rattle.tree_specs.specs.Tree.Pool.{Pool, row_of, passes}
+use Rattle.tree_specs.specs.Tree.Targets.{is_context}
 use Rattle.tree_specs.specs.Events.Handlers.{handler_of}
 use Rattle.tree_specs.specs.Events.Pending.{is_scheduled, is_armed}
 use Rattle.tree_specs.specs.Events.Rotation.{is_watching, is_watched}
 use Rattle.tree_specs.specs.Events.Coming.{comes_as}
 use Rattle.tree_specs.specs.Calls.Refusals.{is_doomed_mark, is_open}
 use Rattle.tree_specs.specs.Rules.Sequence.{Scene}
+use Rattle.tree_specs.specs.Words.Objects.{same, is_same, first_context}
 
 -- an object is to come as this
 abbrev pub waits : What → Pool → Obj → Bool

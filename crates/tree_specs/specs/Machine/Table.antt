@@ -1,7 +1,6 @@
 -- The same rules as tables of single steps, one row for each kind of open work.
 use Rattle.std.specs.Prelude.{ℕ, ◌-◌, Bool, true, false, nat_eq, nat_le, List, Option, Some, None, if◌then◌else◌}
-use Rattle.step_machine.specs.Machine.{Move, Table}
-use Rattle.step_machine.specs.Machine.{Move as Do}
+use Rattle.step_machine.specs.Machine.{Move, Table, Move as Do}
 use Rattle.step_machine.specs.Noted.{Notes}
 use Rattle.tree_specs.specs.declared.object.Obj.{Obj}
 use Rattle.tree_specs.specs.declared.row.Mark.TheVariants as mark
@@ -14,7 +13,6 @@ use Rattle.tree_specs.specs.declared.reply.Reply.TheVariants as reply
 use Rattle.tree_specs.specs.declared.reply.Refusal.TheVariants as refusal
 use Rattle.tree_specs.specs.declared.notice.Notice.{Notice}
 use Rattle.tree_specs.specs.declared.occasion.Occasion.{Occasion}
-use Rattle.tree_specs.specs.declared.coming.Coming.{Coming}
 use Rattle.tree_specs.specs.declared.due.Due.{Due}
 use Rattle.tree_specs.specs.declared.handler.Handler.{Handler}
 use Rattle.tree_specs.specs.declared.wants.Want.{Want}
@@ -47,6 +45,7 @@ use Rattle.tree_specs.specs.declared.free_step.FreeReply.{FreeReply}
 use Rattle.tree_specs.specs.declared.free_step.FreeReply.TheVariants.{Ok}
 use Rattle.tree_specs.specs.declared.free_step.FreeStep.{FreeStep}
 use Rattle.tree_specs.specs.declared.free_step.FreeStep.TheVariants.{Ask as AskOf, Prepare, Dropped, Refused, Accepted, Doom, Left, Moved, Gone, Done as Over, Drain}
+use Rattle.tree_specs.specs.declared.coming.Coming.{Coming}
 use Rattle.tree_specs.specs.Tree.Pool.{Pool, set_mark, soon_here, times_here, ring_here, enter, exit, unschedule, disarm, open_descriptor, renote, schedule_deferred, finish, receive, run_queue, trigger}
 use Rattle.tree_specs.specs.Events.Pending.{first}
 use Rattle.tree_specs.specs.Events.Queues.{Head, has_queue, head_of, next_of}
@@ -56,7 +55,7 @@ use Rattle.tree_specs.specs.Events.Rotation.{Ready, closes_with, first_ready}
 use Rattle.tree_specs.specs.Events.Coming.{wait_limit, handler_for, handler_moment, at_time, with_flags, plainly, begun, goes_after, looks_again}
 use Rattle.tree_specs.specs.Rules.Items.{Item}
 use Rattle.tree_specs.specs.Rules.Items.Item.{Told, Asked}
-use Rattle.tree_specs.specs.Calls.Refusals.{Check, refusals, is_doomed}
+use Rattle.tree_specs.specs.Calls.Refusals.{Check, refusals_at, is_doomed}
 use Rattle.tree_specs.specs.Calls.Plans.{Plan, plan, planned, unless_refused, changed_by}
 use Rattle.tree_specs.specs.Calls.Plans.Plan.{Does, Frees, Unlinks, Empties, Asks, Turns, Works}
 use Rattle.tree_specs.specs.Rules.Sequence.{CallStart}
@@ -144,7 +143,7 @@ call_step check q c p = plan_step q (unless_refused check (plan p c)) p
 
 abbrev pub caller_step : CallFrame → Pool → Step
 caller_step (Asking q) p = Do.Wait (Asked q) (frame.Call (Asking q)) p
-caller_step (Doing q c) p = call_step (refusals p c) q c p
+caller_step (Doing q c) p = call_step (refusals_at q p c) q c p
 -- it waits for the work above it
 caller_step (Awaiting q x) p = Do.Done (Freed Ok) p
 caller_step (Turning q) p = Do.Done (Freed Ok) p

@@ -1,5 +1,4 @@
 -- When a story over its inputs is grounded: what it tells of an object agrees with the pool at that time, and has its cause.
-use Rattle.tree_specs.specs.Events.Coming.{is_at_turn}
 use Rattle.tree_specs.specs.Tree.Targets.{newest_ref}
 use Rattle.std.specs.Prelude.{ℕ, ◌≡◌, ◌≢◌, ◌↔◌, Bool, true, false, List, Option, Some, None}
 use Rattle.step_machine.specs.History.{EachFits}
@@ -22,11 +21,12 @@ use Rattle.tree_specs.specs.declared.reply.Refusal.{Refusal}
 use Rattle.tree_specs.specs.declared.reply.Refusal.TheVariants.{Held, Running, Refused as RefusedBy}
 use Rattle.tree_specs.specs.declared.question.Input.{Input}
 use Rattle.tree_specs.specs.declared.event.Event.TheVariants.{Replied, Fired, Accepted, Refused, Unreferenced}
-use Rattle.tree_specs.specs.Words.Objects.{same}
 use Rattle.tree_specs.specs.declared.handler.Handler.{Handler}
-use Rattle.tree_specs.specs.Events.Handlers.{handler_of}
+use Rattle.tree_specs.specs.Words.Objects.{same}
 use Rattle.tree_specs.specs.Tree.Pool.{Pool, row_of, passes, is_object, is_owner, is_inside}
 use Rattle.tree_specs.specs.Events.Queues.{Head, next_of}
+use Rattle.tree_specs.specs.Events.Coming.{is_at_turn}
+use Rattle.tree_specs.specs.Events.Handlers.{handler_of}
 use Rattle.tree_specs.specs.Calls.Refusals.{is_held, is_running, is_interested, is_entry_row}
 use Rattle.tree_specs.specs.Rules.Items.{Item}
 use Rattle.tree_specs.specs.Rules.Items.Item.{Told}

@@ -1,17 +1,16 @@
 -- A turn in which nothing came: what was to come before it, and what it was told.
-use Rattle.tree_specs.specs.declared.object.Obj.{Obj}
-use Rattle.tree_specs.specs.Calls.Refusals.{is_doomed}
-use Rattle.std.specs.Prelude.{false}
-use Rattle.std.specs.Prelude.{◌≡◌, ℕ, ◌<◌, ◌≤◌, true, List, [], ◌∷◌, Some, None}
+use Rattle.std.specs.Prelude.{false, ◌≡◌, ℕ, ◌<◌, ◌≤◌, true, List, [], ◌∷◌, Some, None}
 use Rattle.tree_specs.specs.declared.bounds.TheConstants.{TIME_LIMIT}
 use Rattle.tree_specs.specs.declared.due.Due.{Due}
 use Rattle.tree_specs.specs.declared.question.Input.{Input}
 use Rattle.tree_specs.specs.declared.question.Input.TheVariants.{Clock, Ready}
 use Rattle.tree_specs.specs.declared.wants.Want.{Want}
+use Rattle.tree_specs.specs.declared.object.Obj.{Obj}
 use Rattle.tree_specs.specs.Words.Wants.{is_wants}
 use Rattle.tree_specs.specs.Events.Pending.{first}
 use Rattle.tree_specs.specs.Events.Rotation.{first_ready}
 use Rattle.tree_specs.specs.Tree.Pool.{Pool, soon_here, times_here, ring_here}
+use Rattle.tree_specs.specs.Calls.Refusals.{is_doomed}
 
 -- the context whose turn is under way isn't to be freed after it
 abbrev pub Remains : Pool → Type 0

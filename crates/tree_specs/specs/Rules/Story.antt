@@ -28,7 +28,6 @@ use Rattle.tree_specs.specs.declared.free_step.FreeReply.TheVariants.{Ok, Held, 
 use Rattle.tree_specs.specs.Tree.Targets.{newest_ref}
 use Rattle.tree_specs.specs.Tree.Pool.{Pool, empty, row_of, owner_of, newest_ref_of, target_at, noted_owner, first_kid, detach, remove, place, set_mark, doom, set_hook, soon_here, times_here, ring_here, exit, unschedule, open_descriptor, renote, schedule_deferred, finish, receive, run_queue, trigger}
 use Rattle.tree_specs.specs.Events.Pending.{first}
-use Rattle.tree_specs.specs.Calls.Refusals.{is_doomed}
 use Rattle.tree_specs.specs.Events.Requests.{note_of, is_noted, is_unreceived, cleanup_in, cancel_in, cleaned as is_cleaned}
 use Rattle.tree_specs.specs.Events.Queues.{has_queue, head_of, next_of}
 use Rattle.tree_specs.specs.Rules.Errands.{reply_to, cancelled_reply, is_receive, after_routine}
@@ -36,7 +35,8 @@ use Rattle.tree_specs.specs.Events.Rotation.{first_ready}
 use Rattle.tree_specs.specs.Events.Coming.{wait_limit, handler_for, handler_moment, with_flags, plainly, begun, goes_after, looks_again}
 use Rattle.tree_specs.specs.Rules.Items.{Item}
 use Rattle.tree_specs.specs.Rules.Items.Item.{Told, Asked}
-use Rattle.tree_specs.specs.Calls.Plans.{planned, notice_of}
+use Rattle.tree_specs.specs.Calls.Plans.{planned, planned_at, notice_of}
+use Rattle.tree_specs.specs.Calls.Refusals.{is_doomed}
 use Rattle.tree_specs.specs.Rules.Answers.{hook_moment, later, heard, clocked, polled, reached}
 use Rattle.tree_specs.specs.Rules.Sequence.{Work, Scene, CallStart, ◌>>=◌, ◌>>◌, gives, pool, change, tells, told_about, asks, short}
 use Rattle.tree_specs.specs.Rules.Pieces.{turned, effect, work_by, comes, falls_due, enters, freed_quietly, hand_on_after, drops, lets_go, notice_event, from_newest, from_quiet}
@@ -178,8 +178,8 @@ abbrev mutual
   acting zero q c = short
   acting (suc n) q c = do
     p ← pool
-    r ← effect (free n) (unlink n) (children n) (reaching n) (turned q (taking n)) (work_by (finishing n) (notifying n) (receiving n) (cancelling n)) (planned p c)
-    elim (notice_of (planned p c)) [
+    r ← effect (free n) (unlink n) (children n) (reaching n) (turned q (taking n)) (work_by (finishing n) (notifying n) (receiving n) (cancelling n)) (planned_at q p c)
+    elim (notice_of (planned_at q p c)) [
       | None ↦ telling n (Some (record { call = c; start = p })) (later q r) r
       | Some notice ↦ announcing n (Some (record { call = c; start = p })) (later q r) notice r
     ]

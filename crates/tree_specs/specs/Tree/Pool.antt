@@ -1,6 +1,5 @@
 -- The pool: the rows of the objects, the most recently placed first, the next serial number, and what waits for its turn.
 use Rattle.std.specs.Prelude.{ℕ, suc, zero, ◌+◌, Bool, true, false, not, ◌||◌, ◌&&◌, List, [], ◌∷◌, length, Option, Some, None, is_some, unwrap_or, codes, if◌then◌else◌}
-use Rattle.tree_specs.specs.declared.coming.Coming.{Coming}
 use Rattle.tree_specs.specs.declared.due.Due.{Due}
 use Rattle.tree_specs.specs.declared.handler.Handler.{Handler}
 use Rattle.tree_specs.specs.declared.watch.Watch.{Watch}
@@ -16,6 +15,7 @@ use Rattle.tree_specs.specs.declared.row.Mark.{Mark}
 use Rattle.tree_specs.specs.declared.row.Mark.TheVariants.{Quiet, Busy, Doomed, Dying}
 use Rattle.tree_specs.specs.declared.kind.Kind.{Kind}
 use Rattle.tree_specs.specs.declared.kind.Kind.TheVariants.{Plain, Request, Queue, Entry}
+use Rattle.tree_specs.specs.declared.coming.Coming.{Coming}
 use Rattle.tree_specs.specs.Words.Objects.{same, same_owner, first_context}
 use Rattle.tree_specs.specs.Events.Pending.{scheduled, unscheduled, armed, disarmed, soon_in, soon_without, times_in, times_without}
 use Rattle.tree_specs.specs.Events.Rotation.{watched, unwatched, rewatched, turned_back, closes_with, ring_in, ring_without}
