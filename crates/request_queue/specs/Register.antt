@@ -1,6 +1,8 @@
 -- Queues as their callers see them.
-use Rattle.std.specs.Prelude.{ℕ, ◌<◌, true, List, [], ◌∷◌, Option, Some, None, if◌then◌else◌}
+use Rattle.std.specs.Prelude.{ℕ, T, ◌<◌, true, List, [], ◌∷◌, Option, Some, None, if◌then◌else◌}
 use Rattle.std.specs.Option.{option_map}
+use Rattle.std.specs.Ordering.{nat_cmp}
+use Rattle.std.specs.FinMap.Entries.{is_sorted}
 use Rattle.tree_specs.specs.declared.coming.Coming.{Coming}
 use Rattle.tree_specs.specs.declared.object.Obj.{Obj}
 use Rattle.tree_specs.specs.declared.queue.QueueEntry.{QueueEntry}
@@ -11,6 +13,10 @@ pub record Register : Type 0 where
   pub queues : Queues
   -- so many queues and so many entries can be added without taking memory
   pub spare : ℕ
+
+-- the entries stand in the order of their numbers
+abbrev pub AreInOrder : List (ℕ × QueueEntry) → Type 0
+AreInOrder entries = T (is_sorted nat_cmp entries)
 
 -- its number is above that of each entry
 abbrev pub IsAbove : Obj → List (ℕ × QueueEntry) → Type 0

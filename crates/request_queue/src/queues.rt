@@ -78,7 +78,7 @@ impl Queues {
     ghost use Rattle.std.specs.Prelude.{◌+◌, ◌<◌, ◌≤◌, OnOk, Bool, None, true, false, is_some, length};
     ghost use Rattle.tree_specs.specs.Events.Queues.{no_queues, running_of, has_queue, with_queue, run_as, without_queue, entry_of, with_entry, without_entry, new_entry, length_of, head_of, has_entries, next_of};
     ghost use Rattle.request_queue.specs.Linked.{queue_of};
-    ghost use Rattle.request_queue.specs.Register.{IsAbove, coming_of, looked_for, starts_next, started, object_of, turn_of, triggered_by};
+    ghost use Rattle.request_queue.specs.Register.{AreInOrder, IsAbove, coming_of, looked_for, starts_next, started, object_of, turn_of, triggered_by};
 
     /// No queues.
     pub fn new(alloc: Global) -> Queues
@@ -221,7 +221,8 @@ impl Queues {
 
     /// The first entry of a queue that runs, where its trigger hasn't begun. None exactly where there is no such entry.
     fn next(&self, q: Obj) -> Option<Obj>
-        ensures { result ≡ option_map object_of (next_of self.now.queues q) }
+        ensures next { result ≡ option_map object_of (next_of self.now.queues q) }
+        ensures order { AreInOrder self.now.queues.entries }
     {
         obj(next_in(&self.lines, &self.nodes, q.0))
     }
