@@ -47,8 +47,8 @@ context-left (y ∷ ys) x q = by_test (same y.object x)
     (λ u. let n : nat_eq y.object.0 q ≡ false = ap (λ (k : ℕ). nat_eq k q) (eqb-true y.object.0 x.0 t) ∙ u in rw (u, n) refl)))
     (λ t. rw t (by_test (nat_eq y.object.0 q)
     (λ u. let n : nat_eq x.0 q ≡ false = false_by _ (λ w.
-        let same_now : nat_eq y.object.0 x.0 ≡ true = eq-eqb y.object.0 x.0 (eqb-true y.object.0 q u ∙ sym (eqb-true x.0 q w)) in
-        let bad : true ≡ false = sym same_now ∙ t in cc) in rw (u, n) refl)
+    let same_now : nat_eq y.object.0 x.0 ≡ true = eq-eqb y.object.0 x.0 (eqb-true y.object.0 q u ∙ sym (eqb-true x.0 q w)) in
+    let bad : true ≡ false = sym same_now ∙ t in cc) in rw (u, n) refl)
     (λ u. rw u (context-left ys x q))))
 
 pub context-joined : (xs : List Coming) (y : Coming) (q : ℕ) → context_in xs y.object.0 ≡ None → context_in (xs ++ y ∷ []) q ≡ cond (nat_eq y.object.0 q) (Some y.context.0) (context_in xs q)
@@ -57,8 +57,8 @@ context-joined (z ∷ zs) y q e = by_test (nat_eq z.object.0 y.object.0)
     (λ t. let bad : Some z.context.0 ≡ None = rw t at e in absurd (cc))
     (λ t. let e' : context_in zs y.object.0 ≡ None = rw t at e in by_test (nat_eq z.object.0 q)
     (λ u. let n : nat_eq y.object.0 q ≡ false = false_by _ (λ w.
-        let same_now : nat_eq z.object.0 y.object.0 ≡ true = eq-eqb z.object.0 y.object.0 (eqb-true z.object.0 q u ∙ sym (eqb-true y.object.0 q w)) in
-        let bad : true ≡ false = sym same_now ∙ t in cc) in rw (u, n) refl)
+    let same_now : nat_eq z.object.0 y.object.0 ≡ true = eq-eqb z.object.0 y.object.0 (eqb-true z.object.0 q u ∙ sym (eqb-true y.object.0 q w)) in
+    let bad : true ≡ false = sym same_now ∙ t in cc) in rw (u, n) refl)
     (λ u. rw u (context-joined zs y q e')))
 
 -- ---- the one that comes next
@@ -122,8 +122,8 @@ closed (b ∷ bs) c d = by_test (same b c)
     (λ u. let n : same b d ≡ false = ap (λ (k : ℕ). nat_eq k d.0) (eqb-true b.0 c.0 t) ∙ u in rw (u, n) refl)))
     (λ t. rw t (by_test (same b d)
     (λ u. let n : same c d ≡ false = false_by _ (λ w.
-        let same_now : same b c ≡ true = eq-eqb b.0 c.0 (eqb-true b.0 d.0 u ∙ sym (eqb-true c.0 d.0 w)) in
-        let bad : true ≡ false = sym same_now ∙ t in cc) in rw (u, n) refl)
+    let same_now : same b c ≡ true = eq-eqb b.0 c.0 (eqb-true b.0 d.0 u ∙ sym (eqb-true c.0 d.0 w)) in
+    let bad : true ≡ false = sym same_now ∙ t in cc) in rw (u, n) refl)
     (λ u. rw u (closed bs c d))))
 
 -- what callers need of a context that is added
