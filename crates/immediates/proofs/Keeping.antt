@@ -1,5 +1,5 @@
 -- What each change leaves of what is kept.
-use Rattle.std.proofs.Common.{◌≡◌, ℕ, ◌+◌, ◌-◌, ◌<◌, Bool, true, false, cond, ◌||◌, nat_eq, List, [], ◌∷◌, ◌++◌, length, Option, Some, None, IsSome, is_some, refl, sym, ap, subst, ◌∙◌, arith}
+use Rattle.std.proofs.Common.{◌≡◌, ℕ, ◌+◌, ◌<◌, Bool, true, false, cond, ◌||◌, nat_eq, List, [], ◌∷◌, ◌++◌, Option, Some, None, IsSome, is_some, refl, sym, ap, subst, ◌∙◌, arith}
 use Rattle.std.proofs.lemmas.Bool.{eqb-true}
 use Rattle.std.proofs.lemmas.List.{length-append}
 use Rattle.std.specs.List.{find}
@@ -11,10 +11,9 @@ use Rattle.tree_specs.specs.declared.object.Obj.{Obj}
 use Rattle.tree_specs.specs.Words.Objects.{same}
 use Rattle.pool_arena.proofs.Keeps.{get-with_entry}
 use Rattle.pool_arena.proofs.Steps.{len-new, len-gone}
-use Rattle.linked_lanes.specs.declared.Sides.{Sides}
 use Rattle.linked_lanes.specs.declared.lane.Extent.{Extent}
 use Rattle.linked_lanes.specs.declared.Link.TheVariants.{Newer, Older}
-use Rattle.linked_lanes.specs.Lane.{is_at, has}
+use Rattle.linked_lanes.specs.Lane.{is_at}
 use Rattle.linked_lanes.specs.Chain.{noted}
 use Rattle.linked_lanes.specs.Family.{Family, no_ends, joined_by, left_by}
 use Rattle.linked_lanes.proofs.Lanes.{by_test, eqb-sym}
