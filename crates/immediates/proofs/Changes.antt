@@ -2,7 +2,7 @@
 use Rattle.std.proofs.Common.{◌≡◌, List, [], ◌∷◌, ◌++◌, ap, ◌∙◌}
 use Rattle.std.proofs.lemmas.Grind.{fold-append}
 use Rattle.tree_specs.specs.declared.object.Obj.{Obj}
-use Rattle.immediates.specs.declared.coming.Coming.{Coming}
+use Rattle.tree_specs.specs.declared.coming.Coming.{Coming}
 use Rattle.immediates.specs.declared.change.Change.{Change}
 use Rattle.immediates.specs.Changes.{changed, recontexted, coming_of, contexts_of}
 

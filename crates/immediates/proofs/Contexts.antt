@@ -10,9 +10,9 @@ use Rattle.tree_specs.proofs.Tree.Numbered.{same-true}
 use Rattle.linked_lanes.specs.Lane.{has, last, is_at}
 use Rattle.linked_lanes.proofs.Lanes.{by_test, false_by, is_at-same}
 use Rattle.linked_lanes.proofs.Ends.{has-last}
-use Rattle.immediates.specs.declared.coming.Coming.{Coming}
-use Rattle.immediates.specs.Objects.{first_context}
-use Rattle.immediates.specs.Pending.{is_scheduled, unscheduled, soon_in, soon_without}
+use Rattle.tree_specs.specs.declared.coming.Coming.{Coming}
+use Rattle.tree_specs.specs.Words.Objects.{first_context}
+use Rattle.tree_specs.specs.Events.Pending.{is_scheduled, unscheduled, soon_in, soon_without}
 use Rattle.immediates.specs.Waiting.{AreOnce, object_of, next_in, is_context, with_context, without_context}
 use Rattle.immediates.specs.Linked.{numbered, one_in, lane_in, context_in}
 use Rattle.immediates.proofs.Once.{few-once, few-absent, absent-same, nobody-gone, swap, first-gone}

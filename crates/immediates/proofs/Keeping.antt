@@ -19,12 +19,12 @@ use Rattle.linked_lanes.specs.Family.{Family, no_ends, joined_by, left_by}
 use Rattle.linked_lanes.proofs.Lanes.{by_test, eqb-sym}
 use Rattle.linked_lanes.proofs.Families.{same-family, found-count, left-family, joined-family, grown-family, shrunk-family}
 use Rattle.lane_ends.specs.Lanes.{Lanes, without_lane}
-use Rattle.immediates.specs.declared.coming.Coming.{Coming}
+use Rattle.tree_specs.specs.declared.coming.Coming.{Coming}
 use Rattle.immediates.specs.declared.node.Node.{Node}
 use Rattle.immediates.specs.declared.change.Change.{Change}
 use Rattle.immediates.specs.Changes.{changed, recontexted, coming_of, contexts_of}
-use Rattle.immediates.specs.Objects.{first_context}
-use Rattle.immediates.specs.Pending.{is_scheduled, unscheduled, soon_in}
+use Rattle.tree_specs.specs.Words.Objects.{first_context}
+use Rattle.tree_specs.specs.Events.Pending.{is_scheduled, unscheduled, soon_in}
 use Rattle.immediates.specs.Waiting.{is_context, without_context}
 use Rattle.immediates.specs.Linked.{IsKept, numbered, lane_in, context_in, context_of, context_at, sides_of, sides_at}
 use Rattle.immediates.proofs.Once.{once-added, once-without, length-gone}

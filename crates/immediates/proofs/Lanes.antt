@@ -6,8 +6,8 @@ use Rattle.tree_specs.specs.declared.object.Obj.{Obj}
 use Rattle.tree_specs.specs.Words.Objects.{same}
 use Rattle.linked_lanes.specs.Lane.{has, last, last_from, without}
 use Rattle.linked_lanes.proofs.Lanes.{by_test, without-absent}
-use Rattle.immediates.specs.declared.coming.Coming.{Coming}
-use Rattle.immediates.specs.Pending.{is_scheduled, unscheduled, soon_in}
+use Rattle.tree_specs.specs.declared.coming.Coming.{Coming}
+use Rattle.tree_specs.specs.Events.Pending.{is_scheduled, unscheduled, soon_in}
 use Rattle.immediates.specs.Waiting.{AreOnce, next_in}
 use Rattle.immediates.specs.Linked.{numbered, one_in, lane_in}
 use Rattle.immediates.proofs.Once.{nobody-gone, absent-same}

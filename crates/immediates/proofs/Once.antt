@@ -6,8 +6,8 @@ use Rattle.tree_specs.specs.declared.object.Obj.{Obj}
 use Rattle.tree_specs.specs.Words.Objects.{same}
 use Rattle.tree_specs.specs.Events.Pending.{first}
 use Rattle.tree_specs.proofs.Tree.Numbered.{by_test, same-equal, same-true, same-false}
-use Rattle.immediates.specs.declared.coming.Coming.{Coming}
-use Rattle.immediates.specs.Pending.{is_scheduled, unscheduled}
+use Rattle.tree_specs.specs.declared.coming.Coming.{Coming}
+use Rattle.tree_specs.specs.Events.Pending.{is_scheduled, unscheduled}
 use Rattle.immediates.specs.Waiting.{AreOnce, object_of}
 
 pub gone : (xs : List Coming) (x : Obj) → is_scheduled (unscheduled xs x) x ≡ false

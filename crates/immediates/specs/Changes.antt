@@ -1,10 +1,10 @@
 -- The history of what comes soon, which proofs alone read.
 use Rattle.std.specs.Prelude.{List, [], ◌∷◌, ◌++◌, fold}
 use Rattle.tree_specs.specs.declared.object.Obj.{Obj}
-use Rattle.immediates.specs.declared.coming.Coming.{Coming}
+use Rattle.tree_specs.specs.declared.coming.Coming.{Coming}
 use Rattle.immediates.specs.declared.change.Change.{Change}
 use Rattle.immediates.specs.declared.change.Change.TheVariants.{Joins, Leaves, Opens, Closes}
-use Rattle.immediates.specs.Pending.{unscheduled}
+use Rattle.tree_specs.specs.Events.Pending.{unscheduled}
 use Rattle.immediates.specs.Waiting.{without_context}
 
 -- those that come soon after a change

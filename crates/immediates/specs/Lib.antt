@@ -1,5 +1,3 @@
-pub mod Objects
-pub mod Pending
 pub mod Waiting
 pub mod Changes
 pub mod Linked

@@ -7,7 +7,7 @@ use Rattle.tree_specs.specs.declared.object.Obj.{Obj}
 use Rattle.linked_lanes.specs.declared.Sides.{Sides}
 use Rattle.linked_lanes.specs.Family.{Family}
 use Rattle.lane_ends.specs.Lanes.{Lanes}
-use Rattle.immediates.specs.declared.coming.Coming.{Coming}
+use Rattle.tree_specs.specs.declared.coming.Coming.{Coming}
 use Rattle.immediates.specs.declared.node.Node.{Node}
 use Rattle.immediates.specs.Waiting.{AreOnce, is_context}
 

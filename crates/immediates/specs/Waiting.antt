@@ -5,9 +5,9 @@ use Rattle.std.specs.Option.{option_map}
 use Rattle.tree_specs.specs.declared.object.Obj.{Obj}
 use Rattle.tree_specs.specs.Words.Objects.{same}
 use Rattle.tree_specs.specs.Events.Pending.{first}
-use Rattle.immediates.specs.declared.coming.Coming.{Coming}
-use Rattle.immediates.specs.Objects.{first_context}
-use Rattle.immediates.specs.Pending.{is_scheduled, unscheduled, soon_in}
+use Rattle.tree_specs.specs.declared.coming.Coming.{Coming}
+use Rattle.tree_specs.specs.Words.Objects.{first_context}
+use Rattle.tree_specs.specs.Events.Pending.{is_scheduled, unscheduled, soon_in}
 
 pub record Waiting : Type 0 where
   -- in the order in which they came, so that the next one of each context stands before the others of it

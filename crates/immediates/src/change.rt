@@ -1,6 +1,5 @@
 //! What becomes of those that come soon, as it is noted for proofs alone.
-use crate::coming::Coming;
-use tree_specs::Obj;
+use tree_specs::{Coming, Obj};
 
 /// A change of those that come soon, or of the contexts that there are.
 #[derive(Clone, Copy)]

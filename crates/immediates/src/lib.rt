@@ -3,11 +3,9 @@
 #![tactic(auto)]
 
 mod change;
-mod coming;
 mod node;
 mod soon;
 #[cfg(test)]
 mod tests;
 
-pub use coming::Coming;
 pub use soon::Soon;

@@ -4,7 +4,6 @@ ghost use Rattle.std.specs.Option.{option_map};
 ghost use Rattle.immediates.specs.Linked.{numbered};
 
 use crate::change::Change;
-use crate::coming::Coming;
 use crate::node::{Node, set_link};
 use http_server::Log;
 use lane_ends::LaneEnds;
@@ -12,7 +11,7 @@ use linked_lanes::{Extent, Link, Sides};
 use pool_arena::Arena;
 use std::alloc::Global;
 use std::marker::Model;
-use tree_specs::{Memory, Obj};
+use tree_specs::{Coming, Memory, Obj};
 
 /// The objects that come soon, first in first out in each context: immediates that are scheduled, requests whose callback
 /// is posted, and queues that are to look at their first entry. Contracts see the list of them with their contexts, each
@@ -55,7 +54,7 @@ fn obj(number: Option<u64>) -> Option<Obj>
 
 impl Soon {
     ghost use Rattle.std.specs.Prelude.{◌+◌, ◌<◌, ◌≤◌, ◌↔◌, [], ◌∷◌, ◌++◌, IsTrue, OnOk, OnErr, length, drop, false, true};
-    ghost use Rattle.immediates.specs.Pending.{is_scheduled, scheduled, unscheduled, soon_in, soon_without};
+    ghost use Rattle.tree_specs.specs.Events.Pending.{is_scheduled, scheduled, unscheduled, soon_in, soon_without};
     ghost use Rattle.immediates.specs.Waiting.{AreOnce, is_context, with_context, without_context, next_in, left_after};
 
     /// Nothing comes soon, and the first context is the only one.

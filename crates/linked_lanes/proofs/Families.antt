@@ -89,11 +89,11 @@ module _ (K : ℕ → Option ℕ) (C : ℕ → Option Sides) (E : ℕ → Option
           let t = f.told d e' is in
           let out : has (F d) x ≡ false = apart c d x n (stands c x within) in
           subst (IsTold C' e') (sym (without-absent (F d) x out)) (record {
-              chain = kept_chain C2 C' _ (F d) (λ q h. rest q (false_by _ (λ u. not_both h (ap (has (F d)) (sym (eqb-true x q u)) ∙ out))))
-                  (left-other C C1 C2 s (λ q. refl) (λ q. refl) e'.newest (F c) (F d) x found-sides
-                  (λ q h. false_by _ (λ k. not_both h (apart c d q n k))) t.chain);
-              at_last = t.at_last;
-              count = t.count;
+            chain = kept_chain C2 C' _ (F d) (λ q h. rest q (false_by _ (λ u. not_both h (ap (has (F d)) (sym (eqb-true x q u)) ∙ out))))
+                (left-other C C1 C2 s (λ q. refl) (λ q. refl) e'.newest (F c) (F d) x found-sides
+                (λ q h. false_by _ (λ k. not_both h (apart c d q n k))) t.chain);
+            at_last = t.at_last;
+            count = t.count;
           })
 
       told' : (d : ℕ) (e' : Extent) → E' d ≡ Some e' → IsTold C' e' (without (F d) x)

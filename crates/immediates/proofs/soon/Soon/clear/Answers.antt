@@ -1,5 +1,5 @@
 use Rattle.std.proofs.Common.{rules, ◌≡◌, [], sym, ◌∙◌}
-use Rattle.immediates.specs.Pending.{soon_in}
+use Rattle.tree_specs.specs.Events.Pending.{soon_in}
 use Rattle.immediates.proofs.Contexts.{none-without}
 use Rattle.immediates.proofs.soon.Soon.clear.Goals as goal
 

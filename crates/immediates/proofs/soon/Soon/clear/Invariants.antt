@@ -1,5 +1,5 @@
 use Rattle.std.proofs.Common.{◌≡◌, ◌≤◌, length}
-use Rattle.immediates.specs.Pending.{soon_in, soon_without}
+use Rattle.tree_specs.specs.Events.Pending.{soon_in, soon_without}
 use Rattle.immediates.proofs.soon.Soon.clear.Given as goal
 
 abbrev pub invariant-loop-c : goal.invariant-loop-c

@@ -1,6 +1,6 @@
 use Rattle.std.proofs.Common.{ap, ◌∙◌}
 use Rattle.immediates.specs.declared.change.Change.TheVariants.{Closes}
-use Rattle.immediates.specs.Pending.{soon_in}
+use Rattle.tree_specs.specs.Events.Pending.{soon_in}
 use Rattle.immediates.specs.Waiting.{Waiting}
 use Rattle.immediates.proofs.Keeping.{keeps-closed, keeps-noted}
 use Rattle.immediates.proofs.soon.Soon.close.Goals as goal

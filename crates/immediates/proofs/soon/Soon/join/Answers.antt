@@ -1,7 +1,7 @@
 use Rattle.std.proofs.Common.{refl, sym, ap, ◌∙◌, arith}
 use Rattle.std.specs.FinMap as map
 use Rattle.immediates.specs.declared.change.Change.TheVariants.{Joins}
-use Rattle.immediates.specs.Pending.{is_scheduled}
+use Rattle.tree_specs.specs.Events.Pending.{is_scheduled}
 use Rattle.immediates.specs.Waiting.{Waiting}
 use Rattle.immediates.proofs.Keeping.{fewer, vacant, longer, keeps-joined, keeps-noted}
 use Rattle.immediates.proofs.soon.Soon.join.Goals as goal

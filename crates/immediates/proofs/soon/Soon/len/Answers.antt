@@ -1,7 +1,7 @@
 use Rattle.std.proofs.Common.{ℕ, List, length, sym, ap, ◌∙◌}
 use Rattle.std.specs.FinMap as map
 use Rattle.linked_lanes.proofs.Families.{unknown-empty}
-use Rattle.immediates.specs.Pending.{soon_in}
+use Rattle.tree_specs.specs.Events.Pending.{soon_in}
 use Rattle.immediates.specs.Waiting.{Waiting}
 use Rattle.immediates.specs.Changes.{coming_of}
 use Rattle.immediates.specs.Linked.{context_at, sides_at, lane_in}

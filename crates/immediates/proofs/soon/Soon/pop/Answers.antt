@@ -1,6 +1,6 @@
 use Rattle.std.proofs.Common.{List, sym, ap, ◌∙◌}
-use Rattle.immediates.specs.declared.coming.Coming.{Coming}
-use Rattle.immediates.specs.Pending.{soon_in, soon_without}
+use Rattle.tree_specs.specs.declared.coming.Coming.{Coming}
+use Rattle.tree_specs.specs.Events.Pending.{soon_in, soon_without}
 use Rattle.immediates.proofs.Contexts.{next-here, next-elsewhere}
 use Rattle.immediates.proofs.soon.Soon.pop.Goals as goal
 

@@ -1,6 +1,6 @@
 use Rattle.std.proofs.Common.{List, ◌∙◌, ap}
-use Rattle.immediates.specs.declared.coming.Coming.{Coming}
-use Rattle.immediates.specs.Pending.{is_scheduled}
+use Rattle.tree_specs.specs.declared.coming.Coming.{Coming}
+use Rattle.tree_specs.specs.Events.Pending.{is_scheduled}
 use Rattle.immediates.proofs.Once.{gone}
 use Rattle.immediates.proofs.soon.Soon.push.Goals as goal
 

@@ -3,7 +3,7 @@ use Rattle.std.specs.FinMap as map
 use Rattle.pool_arena.proofs.Keeps.{removed_none}
 use Rattle.immediates.specs.declared.change.Change.TheVariants.{Leaves}
 use Rattle.immediates.specs.Changes.{coming_of, contexts_of}
-use Rattle.immediates.specs.Pending.{is_scheduled}
+use Rattle.tree_specs.specs.Events.Pending.{is_scheduled}
 use Rattle.immediates.specs.Waiting.{Waiting}
 use Rattle.immediates.specs.Linked.{IsKept}
 use Rattle.immediates.proofs.Once.{nobody-gone}
