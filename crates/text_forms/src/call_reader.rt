@@ -22,7 +22,7 @@ fn call_value(alloc: Global, text: &[u8], version: Version) -> Result<Call, Form
     ensures { Reads result (call_of version text.now) }
 {
     let (word, rest) = split_word(text);
-    let verb = read_verb(word).ok_or(FormFault::NoForm)?;
+    let verb = read_verb(version, word).ok_or(FormFault::NoForm)?;
     let mut fields = Fields::make(alloc, rest);
     let call = read_fields(version, verb, &mut fields)?;
     fields.end()?;
