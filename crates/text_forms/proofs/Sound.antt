@@ -94,7 +94,7 @@ stands_in One c = is_call_in One c && all_sound One (said_context Two c)
 stands_in Two c = true
 
 -- what version 1 says of a sound call is sound, and so is the context that it doesn't say
-sound_of_one : (v : Version) (c : Call) → is_sound_call_in v c ≡ true → (all_sound v (spelling One c).fields ≡ true) × (all_sound v (said_context Two c) ≡ true)
+pub sound_of_one : (v : Version) (c : Call) → is_sound_call_in v c ≡ true → (all_sound v (spelling One c).fields ≡ true) × (all_sound v (said_context Two c) ≡ true)
 sound_of_one v c h = sound_front v (spelling One c).fields (said_context Two c) (ap (all_sound v) (sym (fields_said Two c)) ∙ (and_true (is_call_in v c) (all_sound v (spelling Two c).fields) h).1)
 
 pub stands_from : (v : Version) (c : Call) → is_sound_call_in v c ≡ true → stands_in v c ≡ true

@@ -115,11 +115,11 @@ is_verb letters (Some verb) word h is = is
 -- what is no verb of all is none of those that come first
 none_before : (fs gs : List Form) (word : List ℕ) → form_in (fs ++ gs) word ≡ None → form_in fs word ≡ None
 none_before [] gs word none = refl
-none_before (f ∷ fs) gs word none = by_test (bytes_eq word f.verb) none
+none_before (f ∷ fs) gs word none = by_test (bytes_eq word f.verb) none (none_before fs gs word)
   where
-    by_test : (b : Bool) → cond b (Some f.reading) (form_in (fs ++ gs) word) ≡ None → cond b (Some f.reading) (form_in fs word) ≡ None
-    by_test true none = absurd cc
-    by_test false none = none_before fs gs word none
+    by_test : (b : Bool) → cond b (Some f.reading) (form_in (fs ++ gs) word) ≡ None → (form_in (fs ++ gs) word ≡ None → form_in fs word ≡ None) → cond b (Some f.reading) (form_in fs word) ≡ None
+    by_test true none more = absurd cc
+    by_test false none more = more none
 
 -- what is no verb of version 2 is none of version 1
 pub no_such_verb : (v : Version) (word : List ℕ) → form_in (forms Two) word ≡ None → form_in (forms v) word ≡ None
