@@ -31,7 +31,7 @@ use Rattle.text_forms.specs.declared.form.FormFault.{FormFault}
 use Rattle.text_forms.specs.declared.form.FormFault.TheVariants.{NoForm, Memory}
 use Rattle.text_forms.specs.Reads.{Reads}
 use Rattle.text_forms.specs.Cursor.{Takes, Ends}
-use Rattle.text_forms.specs.Verbs.{reading_of, word_of, has_verb, forms_of, IsVerbIn, fields_read}
+use Rattle.text_forms.specs.Verbs.{reading_of, word_of, has_verb, forms_of, IsVerbIn, IsVerb, fields_read}
 
 form_read : (v : Version) (form : Option Reading) (words : List (List ℕ)) → (form >>= λ reading. read v reading words) ≡ ((form >>= λ reading. taken v reading words) >>= ended)
 form_read v None words = refl
@@ -122,9 +122,13 @@ none_before (f ∷ fs) gs word none = by_test (bytes_eq word f.verb) none (none_
     by_test false none more = more none
 
 -- what is no verb of version 2 is none of version 1
-pub no_such_verb : (v : Version) (word : List ℕ) → form_in (forms Two) word ≡ None → form_in (forms v) word ≡ None
-no_such_verb One word none = none_before (forms One) (context_forms Two) word none
-no_such_verb Two word none = none
+none_of_version : (v : Version) (word : List ℕ) → form_in (forms Two) word ≡ None → form_in (forms v) word ≡ None
+none_of_version One word none = none_before (forms One) (context_forms Two) word none
+none_of_version Two word none = none
+
+pub no_such_verb : (v : Version) (verb : Option Verb) (word : List ℕ) → verb ≡ None → form_in (forms Two) word ≡ None → IsVerb v verb word
+no_such_verb v None word e none = none_of_version v word none
+no_such_verb v (Some verb) word e none = absurd cc
 
 pub is_verb_of : (v : Version) (verb : Verb) (word : List ℕ) → word ≡ word_of verb → has_verb v verb ≡ true → form_in (forms v) word ≡ Some (reading_of verb)
 is_verb_of v verb word is has = ap (form_in (forms v)) is ∙ verb_form v verb has

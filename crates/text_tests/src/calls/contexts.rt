@@ -52,7 +52,9 @@ fn writes_each_call(rt: HostRuntime) -> Result<(), Fail> {
         user: 42,
         context: Obj::first_context(),
     };
-    let make = Call::Context { owner: Owner::Of(Obj(7)) };
+    let make = Call::Context {
+        owner: Owner::Of(Obj(7)),
+    };
     let cases = [
         (make, b"context 7".as_slice()),
         (schedule, b"schedule 9 16 42 7".as_slice()),
