@@ -1,5 +1,5 @@
 -- A verb is found by its word, and its fields are read one after the other: this is the call that the grammar gives.
-use Rattle.std.proofs.Common.{◌≡◌, ℕ, Bool, true, false, cond, List, [], ◌∷◌, ◌++◌, length, bytes_eq, Option, Some, None, Err, refl, sym, ap, ◌∙◌}
+use Rattle.std.proofs.Common.{◌≡◌, ℕ, Bool, true, false, cond, List, [], ◌∷◌, ◌++◌, length, bytes_eq, Option, Some, None, Result, Err, refl, sym, ap, ◌∙◌}
 use Rattle.std.specs.List.{filter}
 use Rattle.std.proofs.lemmas.Slice.Eq.{bytes_eq-Decides}
 use Rattle.tree_specs.specs.declared.call.Call.{Call}
@@ -133,6 +133,11 @@ no_such_verb v (Some verb) word e none = absurd cc
 pub is_verb_of : (v : Version) (verb : Verb) (word : List ℕ) → word ≡ word_of verb → has_verb v verb ≡ true → form_in (forms v) word ≡ Some (reading_of verb)
 is_verb_of v verb word is has = ap (form_in (forms v)) is ∙ verb_form v verb has
 
+-- the verb that was found
+pub found_is : (v : Version) (found : Option Verb) (verb : Verb) (word : List ℕ) → found ≡ Some verb → IsVerb v found word → form_in (forms v) word ≡ Some (reading_of verb)
+found_is v None verb word e is = absurd cc
+found_is v (Some other) verb word e is = let same : other ≡ verb = cc in is ∙ ap (λ (x : Verb). Some (reading_of x)) same
+
 -- a verb that the version doesn't have
 pub is_other_verb : (v : Version) (verb : Verb) (word : List ℕ) → word ≡ word_of verb → has_verb v verb ≡ false → form_in (forms v) word ≡ None
 is_other_verb One (verbs.Owner owner.Context) word is hasnt = ap (form_in (forms One)) is
@@ -162,3 +167,7 @@ no_end v text word more (next ∷ left) verb call NoForm first is h ends = with_
 
 pub all_read : (v : Version) (text word : List ℕ) (more left : List (List ℕ)) (verb : Verb) (call : Call) → words text ≡ word ∷ more → form_in (forms v) word ≡ Some (reading_of verb) → fields_read v verb more ≡ Some (call, left) → left ≡ [] → call_of v text ≡ Some call
 all_read v text word more left verb call first is h ends = with_verb v text word more verb first is ∙ rw (h, ends) refl
+
+-- the fault that a step gave is handed on
+pub handed_on : (r : Result Call FormFault) (given e : FormFault) (value : Option Call) → r ≡ Err given → given ≡ e → Reads (Err e) value → Reads r value
+handed_on r given e value is same h = rw (is, same) h

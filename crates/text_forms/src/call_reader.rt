@@ -17,7 +17,7 @@ use std::alloc::Global;
 use tree_specs::{Call, Version};
 
 /// The call that the text spells, as the grammar defines it.
-#[tactic(auto, using(crate::proofs::Verbs::no_verb, crate::proofs::Verbs::no_fields, crate::proofs::Verbs::no_end, crate::proofs::Verbs::all_read))]
+#[tactic(auto, using(crate::proofs::Verbs::no_verb, crate::proofs::Verbs::no_fields))]
 fn call_value(alloc: Global, text: &[u8], version: Version) -> Result<Call, FormFault>
     ensures { Reads result (call_of version text.now) }
 {
