@@ -1,5 +1,5 @@
 -- The line of an input: it has no LF, and it isn't too long for a schedule.
-use Rattle.std.proofs.Common.{◌≡◌, ◌≤◌, ◌<◌, ℕ, zero, suc, ◌+◌, ◌*◌, ◌^◌, ◌/◌, ◌%◌, true, leb, ltb, ◌&&◌, List, [], ◌∷◌, ◌++◌, length, slice_index, refl, codes, ◌∙◌, arith, length-append}
+use Rattle.std.proofs.Common.{◌≡◌, ◌≤◌, ◌<◌, ℕ, zero, suc, ◌+◌, ◌*◌, ◌^◌, ◌/◌, ◌%◌, true, leb, ltb, ◌&&◌, List, [], ◌∷◌, ◌++◌, length, slice_index, refl, codes, arith, length-append}
 use Rattle.std.specs.Prelude.{flat_map}
 use Rattle.std.specs.Char.{is_ascii_digit}
 use Rattle.std.specs.Fmt.{decimal}
