@@ -13,7 +13,6 @@ use Rattle.tree_specs.specs.declared.moment.What.{What}
 use Rattle.tree_specs.specs.declared.moment.What.TheVariants.{Immediate}
 use Rattle.std.specs.Prelude.{not, is_some}
 use Rattle.std.specs.Ordering.{nat_cmp, eq_by_cmp}
-use Rattle.tree_specs.specs.Words.Objects.{same}
 use Rattle.tree_specs.specs.declared.kind.Kind.{Kind}
 use Rattle.tree_specs.specs.declared.kind.Kind.TheVariants as kind
 use Rattle.tree_specs.specs.Events.Queues.{Queues, Head, entry_of, has_entries, without_entry, next_of}

@@ -34,7 +34,7 @@ use Rattle.tree_specs.specs.Events.Queues.{Head, head_of, has_entries, next_of, 
 use Rattle.tree_specs.specs.Events.Requests.{note_of, is_unreceived, cleanup_in, cancel_in, cleaned, not_deferring}
 use Rattle.tree_specs.specs.Events.Coming.{comes_as, handler_for, goes_after, begun, handler_moment, plainly}
 use Rattle.tree_specs.specs.Calls.Refusals.{is_doomed, is_queue, is_entry, is_queue_row}
-use Rattle.tree_specs.specs.Calls.Plans.{Plan, plan, planned, planned_at}
+use Rattle.tree_specs.specs.Calls.Plans.{Plan, planned, planned_at}
 use Rattle.tree_specs.specs.Calls.Plans.Plan.{Frees, Unlinks}
 use Rattle.tree_specs.specs.Machine.Table.{closing_step, deferred_step, over_step, Step, step, starting_step, handled_step, turn_step, outside_step, cancelling_step, cleaning_step, release_object, cleaned_step, callback_step, notifying_step, vacating_step, triggering_step, request_step}
 use Rattle.tree_specs.specs.Invariants.Sound.{is_at_turn_mark, IsTurning, Footing, OnFree, footing, claims, IsRequested, Drains, Sound, IsLive}
@@ -50,7 +50,6 @@ use Rattle.tree_specs.proofs.Calls.Plans.{may-planned-at}
 use Rattle.tree_specs.specs.Machine.Profiles.{InHandler}
 use Rattle.tree_specs.specs.declared.occasion.Occasion.{Occasion}
 use Rattle.tree_specs.specs.Machine.FreeTable.{free_step}
-use Rattle.tree_specs.specs.Words.Objects.{same}
 use Rattle.step_machine.specs.Machine.{Move as Do}
 use Rattle.tree_specs.proofs.Invariants.KeptQueueCalls.{goes, PlanKeeps, plan-keeps, planned-queued}
 

@@ -31,7 +31,6 @@ use Rattle.tree_specs.specs.Rules.Items.Item.{Told}
 use Rattle.tree_specs.specs.declared.event.Event.TheVariants.{Freed, Closed}
 use Rattle.tree_specs.specs.Words.Ranges.{is_sound_call, is_return}
 use Rattle.tree_specs.specs.Calls.Refusals.{is_request, is_queue}
-use Rattle.tree_specs.specs.Events.Pending.{first}
 use Rattle.tree_specs.specs.Events.Rotation.{closes_with}
 use Rattle.tree_specs.specs.Calls.Given.{Given, given_to}
 use Rattle.tree_specs.specs.Calls.Given.Given.{Calls, Returns}

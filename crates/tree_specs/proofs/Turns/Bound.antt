@@ -29,7 +29,7 @@ use Rattle.tree_specs.specs.Tree.Inside.{total}
 use Rattle.tree_specs.specs.Invariants.Measure.{turning_cost, mark_weight, weight, below_cost, look_cost, top_cost, cost, pending}
 use Rattle.tree_specs.proofs.Tree.Rows.{count-length}
 use Rattle.tree_specs.proofs.Turns.FallingFrees.{kids-most}
-use Rattle.tree_specs.proofs.Turns.Load.{mark_deposit-most}
+use Rattle.tree_specs.proofs.Turns.LoadFrees.{mark_deposit-most}
 use Rattle.tree_specs.proofs.Turns.Lowering.{turning-most}
 
 -- ---- the measure against the number of turns
