@@ -22,8 +22,8 @@ fn is_in_context(call: &Call) -> bool
             | Call::Post { .. }
             | Call::Endtime { .. }
             | Call::Enqueue { .. }
-            | Call::Pending
-            | Call::Turn
+            | Call::Pending { .. }
+            | Call::Turn { .. }
     )
 }
 
@@ -65,7 +65,8 @@ fn append_line(line: &[u8], gains: bool, out: &mut Vec<u8>) -> Result<(), Memory
 /// Appends the line of version 2 that spells what a line of this version spells, the line without its LF. NoForm exactly
 /// where it spells no input in this version, unless memory ran out; nothing is appended then, and without memory.
 ///
-/// Either version has one spelling of an input, so the bytes of the line are copied.
+/// Either version has one spelling of an input, so the bytes of the line are copied. What says no context in version 1 is
+/// in the first one.
 pub fn convert_line(line: &[u8], version: Version, out: &mut Vec<u8>) -> Result<(), FormFault>
     ensures { Converts version line.now out.old.items out.new.items result }
 {
