@@ -1,2 +1,5 @@
+pub mod Objects
+pub mod Pending
 pub mod Waiting
+pub mod Changes
 pub mod Linked

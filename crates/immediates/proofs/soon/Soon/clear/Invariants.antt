@@ -1,0 +1,13 @@
+use Rattle.std.proofs.Common.{◌≡◌, ◌≤◌, length}
+use Rattle.immediates.specs.Pending.{soon_in, soon_without}
+use Rattle.immediates.proofs.soon.Soon.clear.Given as goal
+
+abbrev pub invariant-loop-c : goal.invariant-loop-c
+invariant-loop-c l = record {
+  elsewhere : soon_without l.self.coming l.c ≡ soon_without l.fn.self.coming l.c;
+  contexts : l.self.contexts ≡ l.fn.self.contexts;
+  spare : l.fn.self.spare ≤ l.self.spare;
+}
+
+abbrev pub decreases-loop-c : goal.decreases-loop-c
+decreases-loop-c l = length (soon_in l.self.coming l.c)

@@ -1,0 +1,11 @@
+//! An object that comes soon, and where.
+//! What comes soon.
+use tree_specs::Obj;
+
+/// An object that comes soon: an immediate (`tevent_schedule_immediate`), a request, or a queue.
+#[derive(Clone, Copy, Debug, PartialEq, Eq)]
+pub struct Coming {
+    pub object: Obj,
+    /// The context in which it comes.
+    pub context: Obj,
+}
