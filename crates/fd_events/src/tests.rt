@@ -21,7 +21,7 @@ fn add(ring: &mut Ring, x: u64, fd: u32, flags: u32) -> bool
 {
     let free = ring.watch(Obj(x)).is_none() && ring.holder(fd).is_none();
     if free {
-        ring.add(Obj(x), fd, flags);
+        ring.add(Obj(x), fd, flags, FIRST);
     }
     free
 }
@@ -80,7 +80,7 @@ fn two(alloc: Global, first: Want, second: Want) -> Result<Vec<Want>, Fail> {
 
 // The first event that comes where these are ready, 10 times its number, and what for; 0 where none comes.
 fn first_ready(ring: &Ring, ready: &Wants) -> u64 {
-    match ring.first_ready(ready) {
+    match ring.first_ready(FIRST, ready) {
         None => 0,
         Some(ReadyEvent { object, flags }) => object
             .0
@@ -109,17 +109,17 @@ fn three(ring: &mut Ring) -> bool
 
 // What is told of the three events.
 fn is_told(ring: &Ring) -> bool {
-    let first = is_watch(ring.first(), 7, 40, 1, false);
+    let first = is_watch(ring.first(FIRST), 7, 40, 1, false);
     let second = is_watch(ring.watch(Obj(3)), 3, 9, 0, false);
     let flags = (flags(ring, 5) == 3) & (flags(ring, 6) == 4);
     let holders = (number(ring.holder(2)) == 5) & (number(ring.holder(3)) == 0);
-    first & second & flags & holders & (ring.len() == 3)
+    first & second & flags & holders & (ring.len(FIRST) == 3)
 }
 
 #[test]
 fn each_event_watches_as_it_was_told(rt: HostRuntime) -> Result<(), Fail> {
     let mut ring = with_room(rt.alloc(), 3)?;
-    assert!(rt; ring.is_empty());
+    assert!(rt; ring.is_empty(FIRST));
     assert!(rt; three(&mut ring));
     assert!(rt; is_told(&ring));
     Ok(())
@@ -131,7 +131,7 @@ fn is_changed(ring: &mut Ring) -> bool {
     let closing = set_closing(ring, 7);
     let absent = set_flags(ring, 4, 1);
     ring.turn_back(Obj(7));
-    let first = is_watch(ring.first(), 3, 9, 2, false);
+    let first = is_watch(ring.first(FIRST), 3, 9, 2, false);
     flagged & closing & !absent & first & (flags(ring, 5) == 3)
 }
 
@@ -139,7 +139,7 @@ fn is_changed(ring: &mut Ring) -> bool {
 fn is_removed(ring: &mut Ring) -> bool {
     let removed = is_watch(ring.remove(Obj(7)), 7, 40, 1, true);
     let again = ring.remove(Obj(7)).is_some();
-    removed & !again & (number(ring.holder(40)) == 0) & (ring.len() == 2)
+    removed & !again & (number(ring.holder(40)) == 0) & (ring.len(FIRST) == 2)
 }
 
 #[test]
@@ -166,7 +166,7 @@ fn the_first_that_is_ready_comes(rt: HostRuntime) -> Result<(), Fail> {
 
 // The descriptors that are wanted, in their order, each after 100 times those before it.
 fn wanted(ring: &Ring, out: &mut Vec<Want>) -> Result<u64, Fail> {
-    ring.wants(out)?;
+    ring.wants(FIRST, out)?;
     let mut sum: u64 = 0;
     for want in &*out {
         sum = sum.wrapping_mul(100).wrapping_add(u64::from(want.fd));
@@ -276,6 +276,6 @@ fn many_leave_downward_and_then_upward(rt: HostRuntime) -> Result<(), Fail> {
     assert!(rt; add_all(&mut ring, 1_000_000));
     let last = first_of_two(rt.alloc(), &ring, want(999_999, 1), want(1_000_000, 1))?;
     let removed = remove_each(&mut ring, 500_000);
-    assert!(rt; (last == 10_000_001) & removed & ring.is_empty());
+    assert!(rt; (last == 10_000_001) & removed & ring.is_empty(FIRST));
     Ok(())
 }
