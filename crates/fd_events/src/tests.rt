@@ -5,6 +5,9 @@ use std::alloc::Global;
 use std::test::Fail;
 use tree_specs::{Obj, Want, Wants, Watch};
 
+/// The context that always is there.
+const FIRST: Obj = Obj(0);
+
 // No events, with room for so many.
 fn with_room(alloc: Global, room: usize) -> Result<Ring, Fail>
     ensures { IfOk result (λ ring. room ≤ ring.spare) }
