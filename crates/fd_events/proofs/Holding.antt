@@ -22,6 +22,10 @@ pub none : {X : Type 0} (o : Option X) → is_some o ≡ false → o ≡ None
 none None e = refl
 none (Some v) e = cc
 
+abbrev pub kept_if : (Watch → Bool) → Option Watch → Option Watch
+kept_if p None = None
+kept_if p (Some w) = if p w then Some w else None
+
 -- ---- what no two have the same of
 
 module _ (key : Watch → ℕ) where
@@ -50,6 +54,17 @@ module _ (key : Watch → ℕ) where
   pub once-filtered : (p : Watch → Bool) (ws : List Watch) → AreOnceBy key ws → AreOnceBy key (filter p ws)
   once-filtered p [] a = tt
   once-filtered p (v ∷ vs) a = by_test (p v) (λ u. rw u (absent-filtered p vs (key v) a.0, once-filtered p vs a.1)) (λ u. rw u (once-filtered p vs a.1))
+
+  -- one among those that pass a test
+  pub found-kept : (p : Watch → Bool) (ws : List Watch) (n : ℕ) → AreOnceBy key ws → found (filter p ws) n ≡ kept_if p (found ws n)
+  found-kept p [] n a = refl
+  found-kept p (v ∷ vs) n a = by_test (nat_eq (key v) n)
+      (λ t. by_test (p v)
+      (λ u. rw (t, u, t) refl)
+      (λ u. rw (t, u) (none _ (absent-filtered p vs n (ap (λ k. is_some (found vs k)) (sym (eqb-true (key v) n t)) ∙ a.0)))))
+      (λ t. by_test (p v)
+      (λ u. rw (t, u, t) (found-kept p vs n a.1))
+      (λ u. rw (t, u) (found-kept p vs n a.1)))
 
   module _ (g : Watch → Watch) (kept : (w : Watch) → key (g w) ≡ key w) where
     pub found-changed : (ws : List Watch) (n : ℕ) → found (map g ws) n ≡ option_map g (found ws n)

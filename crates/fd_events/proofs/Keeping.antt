@@ -28,7 +28,7 @@ use Rattle.fd_events.specs.Changes.{changed, recontexted, watches_of, contexts_o
 use Rattle.fd_events.specs.Linked.{numbered, number_of, sides_of, stamp_of, sides_at, stamp_at, watch_at, watching, with_loss, context_of, context_in, numbers_of, lane_in, placed, lanes_joined, lanes_left, HasSome, HasFewer, OnContext, is_there, IsLane, AreHolders, IsKept}
 use Rattle.fd_events.proofs.Nodes.{sides-put, stamp-put, watch-put, read-changed, read-same}
 use Rattle.fd_events.proofs.Holding.{none, once-added, once-filtered, once-changed, watch-object, gone-fd, holders-added, holders-gone, holders-changed, holders-again, is-free}
-use Rattle.fd_events.proofs.Lanes.{lane-is, lane-nodes}
+use Rattle.fd_events.proofs.Lanes.{lane-is, lane-nodes, lane-nowhere}
 use Rattle.fd_events.proofs.Rings.{watch-joined, watch-left, watch-changed, context-joined, context-left, context-changed, lane-joined, lane-left, lane-changed, lane-length, length-gone}
 use Rattle.fd_events.proofs.Contexts.{some_unless, opened, closed}
 use Rattle.fd_events.proofs.Changes.{watches-noted, contexts-noted}
@@ -86,6 +86,11 @@ module _ (l : Lane) (h : Holders) (ws : List Watch) (cs : List Obj) (k : IsKept 
 
     -- ---- leaving
 
+    pub left-by : (l1 : Lane)
+        → ((K : ℕ → Option ℕ) (F : ℕ → List ℕ) (y : ℕ) → IsLane l K F → K y ≡ option_map number_of v.context → sides_at l.nodes.pairs y ≡ Some v.sides → IsLane l1 (placed K y None) (lanes_left F y))
+        → IsLane l1 (placed (context_in ws) x.0 None) (lanes_left (lane_in ws) x.0)
+    left-by l1 leaves = leaves (context_in ws) (lane_in ws) x.0 k.lane context-there sides-there
+
     module _ (l1 : Lane)
         (left : IsLane l1 (placed (context_in ws) x.0 None) (lanes_left (lane_in ws) x.0))
         (same : (q : ℕ) → watch_at l1.nodes.pairs q ≡ watch_at l.nodes.pairs q) (len : map.len l1.nodes.pairs ≡ map.len l.nodes.pairs)
@@ -95,6 +100,12 @@ module _ (l : Lane) (h : Holders) (ws : List Watch) (cs : List Obj) (k : IsKept 
 
       out : is_watching (unwatched ws x) x ≡ false
       out = ap is_some (watch-left ws x x.0) ∙ rw (eqb-self x.0) refl
+
+      nobody : context_in (unwatched ws x) x.0 ≡ None
+      nobody = context-left ws x x.0 ∙ rw (eqb-self x.0) refl
+
+      here : watch_at l1.nodes.pairs x.0 ≡ Some (watching x.0 v)
+      here = same x.0 ∙ ap (option_map (watching x.0)) found
 
       -- in the lane that it left fewer stand than there are
       pub fewer-left : OnContext (HasFewer l1.ends (map.len l1.nodes.pairs)) v.context
@@ -155,15 +166,43 @@ module _ (l : Lane) (h : Holders) (ws : List Watch) (cs : List Obj) (k : IsKept 
               ∙ ap (cond (nat_eq x.0 q) (Some w)) (sym (watch-left ws x q)) ∙ ap (λ (y : ℕ). cond (nat_eq y q) (Some w) (watch_of (unwatched ws x) (numbered q))) (sym nx)
               ∙ sym (watch-joined (unwatched ws x) w q absent);
           count = let g = length-gone ws x k.once (ap is_some watch-there) in let a = length-append (unwatched ws x) (w ∷ []) in let all = k.count in omega (arith, len, len2, g, a, all);
-          noted = holders-turned2;
+          noted = holders-again (map.get h) ws x (watching x.0 v) w k.once watch-there own fd k.noted free;
           lane = lane-is l2 _ (context_in (unwatched ws x ++ w ∷ [])) _ (lane_in (unwatched ws x ++ w ∷ []))
               (λ q. context-joined (unwatched ws x) w q absent ∙ ap (λ (y : ℕ). placed (context_in (unwatched ws x)) y (context_of w) q) nx)
               (λ d. lane-joined (unwatched ws x) w d ∙ ap (λ (y : ℕ). lanes_joined (lane_in (unwatched ws x)) y (context_of w) d) nx) joined;
           open_ones = λ c. open2 c ∙ open c ∙ k.open_ones c;
         }
-          where
-            holders-turned2 : AreHolders (map.get h) (unwatched ws x ++ w ∷ [])
-            holders-turned2 = holders-again (map.get h) ws x (watching x.0 v) w k.once watch-there own fd k.noted free
+
+      -- one that has come goes behind all others
+      module _ (l2 : Lane)
+          (joins : (K : ℕ → Option ℕ) (F : ℕ → List ℕ) → IsLane l1 K F → K x.0 ≡ None → is_there l1 x.0 ≡ true
+          → IsLane l2 (placed K x.0 (option_map number_of v.context)) (lanes_joined F x.0 (option_map number_of v.context)))
+          (still : (q : ℕ) → watch_at l2.nodes.pairs q ≡ watch_at l1.nodes.pairs q) (len2 : map.len l2.nodes.pairs ≡ map.len l1.nodes.pairs)
+          (open2 : (d : ℕ) → is_some (map.get l2.ends d) ≡ is_some (map.get l1.ends d)) where
+        pub keeps-turned : IsKept l2 h (turned_back ws x) cs
+        keeps-turned =
+            subst (λ (us : List Watch). IsKept l2 h us cs) (sym (ap (behind_all (unwatched ws x)) watch-there))
+            (keeps-behind (watching x.0 v) refl refl l2
+            (joins (context_in (unwatched ws x)) (lane_in (unwatched ws x)) left-now nobody (ap is_some here))
+            (λ q. still q ∙ by_test (nat_eq x.0 q) (λ t. rw t (ap (watch_at l1.nodes.pairs) (sym (eqb-true x.0 q t)) ∙ here)) (λ t. rw t refl))
+            len2 open2)
+
+      -- one is lost, behind all others
+      module _ (n2 : Held Node)
+          (changes : (q : ℕ) → map.get n2.pairs q ≡ cond (nat_eq x.0 q) (option_map with_loss (map.get l1.nodes.pairs q)) (map.get l1.nodes.pairs q)) (len2 : map.len n2.pairs ≡ map.len l1.nodes.pairs) where
+        now-lost : (q : ℕ) → watch_at n2.pairs q ≡ cond (nat_eq x.0 q) (Some (lost (watching x.0 v))) (watch_at l1.nodes.pairs q)
+        now-lost q =
+            ap (option_map (watching q)) (changes q) ∙ read-changed (watching q) with_loss lost (λ u. refl) (nat_eq x.0 q) (map.get l1.nodes.pairs q)
+            ∙ by_test (nat_eq x.0 q) (λ t. rw t (ap (λ (y : ℕ). option_map lost (watch_at l1.nodes.pairs y)) (sym (eqb-true x.0 q t)) ∙ ap (option_map lost) here)) (λ t. rw t refl)
+
+        pub keeps-lost : IsKept (record l1 { nodes = n2 }) h (lost_one ws x) cs
+        keeps-lost =
+            subst (λ (us : List Watch). IsKept (record l1 { nodes = n2 }) h us cs) (sym (ap (λ o. behind_all (unwatched ws x) (option_map lost o)) watch-there))
+            (keeps-behind (lost (watching x.0 v)) refl refl (record l1 { nodes = n2 })
+            (lane-nowhere (record l1 { nodes = n2 }) (context_in (unwatched ws x)) (lane_in (unwatched ws x)) x.0 nobody
+            (lane-nodes l1 n2 _ _ (λ c q m. ap (option_map sides_of) (changes q) ∙ read-same sides_of with_loss (λ u. refl) (nat_eq x.0 q) (map.get l1.nodes.pairs q))
+            (λ c q m. ap (option_map stamp_of) (changes q) ∙ read-same stamp_of with_loss (λ u. refl) (nat_eq x.0 q) (map.get l1.nodes.pairs q)) left-now))
+            now-lost len2 (λ d. refl))
 
   -- ---- adding
 
@@ -206,7 +245,7 @@ module _ (l : Lane) (h : Holders) (ws : List Watch) (cs : List Obj) (k : IsKept 
       once = once-changed (λ (w : Watch). w.object.0) change kept ws k.once;
       held = λ q. ap (option_map (watching q)) (changes q) ∙ read-changed (watching q) g f (watches q) (nat_eq x.0 q) (map.get l.nodes.pairs q)
           ∙ (λ i. let o = k.held q i in cond (nat_eq x.0 q) (option_map f o) o) ∙ sym (watch-changed f ws x q objects);
-      count = let m = length-map change ws in let all = k.count in omega (arith, len, m, all);
+      count = let m = length-map ws change in let all = k.count in omega (arith, len, m, all);
       noted = holders-changed (map.get h) (map.get h) ws k.noted f x fds objects (λ q. refl);
       lane = lane-is (record l { nodes = n1 }) _ (context_in (rewatched f ws x)) _ (lane_in (rewatched f ws x)) (λ q. context-changed f ws x q objects contexts) (λ d. lane-changed f ws x d objects contexts)
           (lane-nodes l n1 _ _ (λ c q m. ap (option_map sides_of) (changes q) ∙ read-same sides_of g sides (nat_eq x.0 q) (map.get l.nodes.pairs q))

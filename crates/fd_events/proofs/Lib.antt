@@ -12,3 +12,6 @@ pub mod Walking
 pub mod Searching
 pub mod Soonest
 pub mod Growing
+pub mod Losing
+pub mod Places
+pub mod Stamped
