@@ -1,6 +1,6 @@
 //! The order in which events on descriptors are looked at, one for each context. An event joins that of its context at
 //! the end, and leaves it wherever it stands.
-ghost use Rattle.std.specs.Prelude.{◌≡◌, ◌↔◌, ℕ, List, Some, None, IsTrue, true, false};
+ghost use Rattle.std.specs.Prelude.{◌≡◌, ◌↔◌, ℕ, List, Option, Some, None, IsTrue, true};
 ghost use Rattle.std.specs.Option.{option_map};
 ghost use Rattle.std.specs.FinMap as map;
 ghost use Rattle.fd_events.specs.Linked.{number_of, sides_at, watch_at, is_there, placed, lanes_joined, lanes_left, HasFewer, HasSome, HasStampsLeft, IsLane, OnContext};

@@ -1,4 +1,5 @@
-ghost use Rattle.std.specs.Prelude.{◌+◌, ◌≤◌, ◌<◌, IfOk};
+ghost use Rattle.std.specs.Prelude.{◌≡◌, ◌+◌, ◌≤◌, ◌<◌, IfOk, true};
+ghost use Rattle.fd_events.specs.Rotation.{is_context};
 
 use crate::{ReadyEvent, Ring};
 use std::alloc::Global;
@@ -280,5 +281,64 @@ fn many_leave_downward_and_then_upward(rt: HostRuntime) -> Result<(), Fail> {
     let last = first_of_two(rt.alloc(), &ring, want(999_999, 1), want(1_000_000, 1))?;
     let removed = remove_each(&mut ring, 500_000);
     assert!(rt; (last == 10_000_001) & removed & ring.is_empty(FIRST));
+    Ok(())
+}
+
+// Each event joins in this context. Answers whether it was free; if not, nothing changes.
+fn add_in(ring: &mut Ring, x: u64, fd: u32, c: Obj) -> bool
+    requires room { 0 < ring.old.spare }
+    requires known { is_context ring.old.contexts c ≡ true }
+    ensures spare { ring.old.spare ≤ ring.new.spare + 1 }
+    ensures contexts { ring.new.contexts ≡ ring.old.contexts }
+{
+    let free = ring.watch(Obj(x)).is_none() && ring.holder(fd).is_none();
+    if free {
+        ring.add(Obj(x), fd, 1, c);
+    }
+    free
+}
+
+// The first event of a context that comes where the descriptors 1 to 4 are ready for reading, 0 where none comes.
+fn first_of_four(alloc: Global, ring: &Ring, c: Obj) -> Result<u64, Fail> {
+    let wants = vec![in alloc; want(1, 1), want(2, 1), want(3, 1), want(4, 1)]?;
+    let Some(ready) = Wants::make(wants) else {
+        return Ok(0);
+    };
+    Ok(number(ring.first_ready(c, &ready).map(|event| event.object)))
+}
+
+#[test]
+fn each_context_has_its_rotation(rt: HostRuntime) -> Result<(), Fail> {
+    let mut ring = with_room(rt.alloc(), 4)?;
+    ring.add_context(Obj(9))?;
+    let first = add_in(&mut ring, 11, 1, FIRST);
+    let second = add_in(&mut ring, 12, 2, Obj(9));
+    let third = add_in(&mut ring, 13, 3, FIRST);
+    let fourth = add_in(&mut ring, 14, 4, Obj(9));
+    assert!(rt; first & second & third & fourth);
+    let here = first_of_four(rt.alloc(), &ring, FIRST)?;
+    let there = first_of_four(rt.alloc(), &ring, Obj(9))?;
+    ring.turn_back(Obj(12));
+    let turned = first_of_four(rt.alloc(), &ring, Obj(9))?;
+    assert!(rt; (here == 11) & (there == 12) & (turned == 14));
+    assert!(rt; (ring.len(FIRST) == 2) & (ring.len(Obj(9)) == 2) & (ring.total() == 4));
+    Ok(())
+}
+
+#[test]
+fn the_events_of_a_dropped_context_are_lost(rt: HostRuntime) -> Result<(), Fail> {
+    let mut ring = with_room(rt.alloc(), 4)?;
+    ring.add_context(Obj(9))?;
+    add_in(&mut ring, 12, 2, Obj(9));
+    add_in(&mut ring, 11, 1, FIRST);
+    add_in(&mut ring, 14, 4, Obj(9));
+    ring.drop_context(Obj(9));
+    let here = first_of_four(rt.alloc(), &ring, FIRST)?;
+    let there = first_of_four(rt.alloc(), &ring, Obj(9))?;
+    assert!(rt; (here == 11) & (there == 0));
+    assert!(rt; (ring.len(Obj(9)) == 0) & (ring.total() == 3));
+    assert_eq!(rt; number(ring.holder(2)), 12);
+    let lost = ring.remove(Obj(12)).unwrap();
+    assert!(rt; lost.context.is_none() & (ring.total() == 2));
     Ok(())
 }
