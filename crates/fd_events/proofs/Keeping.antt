@@ -2,6 +2,7 @@
 use Rattle.std.proofs.Common.{◌≡◌, ℕ, suc, ◌+◌, ◌-◌, ◌<◌, ◌||◌, Bool, true, false, cond, nat_eq, if◌then◌else◌, List, [], ◌∷◌, ◌++◌, length, Option, Some, None, IsSome, is_some, refl, sym, ap, subst, ◌∙◌, arith}
 use Rattle.std.proofs.lemmas.Bool.{eqb-true}
 use Rattle.std.proofs.lemmas.List.{length-append, length-map}
+use Rattle.std.specs.Prelude.{not}
 use Rattle.std.specs.List.{find}
 use Rattle.std.specs.Option.{option_map, option_and_then}
 use Rattle.std.specs.Ordering.{nat_cmp}
@@ -94,7 +95,7 @@ module _ (l : Lane) (h : Holders) (ws : List Watch) (cs : List Obj) (k : IsKept 
     module _ (l1 : Lane)
         (left : IsLane l1 (placed (context_in ws) x.0 None) (lanes_left (lane_in ws) x.0))
         (same : (q : ℕ) → watch_at l1.nodes.pairs q ≡ watch_at l.nodes.pairs q) (len : map.len l1.nodes.pairs ≡ map.len l.nodes.pairs)
-        (open : (d : ℕ) → is_some (map.get l1.ends d) ≡ is_some (map.get l.ends d)) where
+        (opens : (d : ℕ) → is_some (map.get l1.ends d) ≡ is_some (map.get l.ends d)) where
       left-now : IsLane l1 (context_in (unwatched ws x)) (lane_in (unwatched ws x))
       left-now = lane-is l1 _ (context_in (unwatched ws x)) _ (lane_in (unwatched ws x)) (context-left ws x) (λ d. lane-left ws x d k.once) left
 
@@ -114,7 +115,7 @@ module _ (l : Lane) (h : Holders) (ws : List Watch) (cs : List Obj) (k : IsKept 
           go : (o : Option Obj) → context_in ws x.0 ≡ option_map number_of o → OnContext (HasFewer l1.ends (map.len l1.nodes.pairs)) o
           go None e = tt
           go (Some c) e =
-              let p = some-from (map.get l1.ends c.0) (open c.0 ∙ k.lane.family.known c.0 x.0 e) in
+              let p = some-from (map.get l1.ends c.0) (opens c.0 ∙ k.lane.family.known c.0 x.0 e) in
               let s = (left.family.told c.0 p.0 p.1).count in
               let w = length-without (lane_in ws c.0) x.0 (stands (context_in ws) (sides_at l.nodes.pairs) (map.get l.ends) (lane_in ws) k.lane.family c.0 x.0 e) in
               let m = lane-length ws c.0 in
@@ -131,12 +132,12 @@ module _ (l : Lane) (h : Holders) (ws : List Watch) (cs : List Obj) (k : IsKept 
 
         pub keeps-gone : IsKept (record l1 { nodes = n2 }) h' (unwatched ws x) cs
         keeps-gone = record {
-          once = once-filtered (λ (w : Watch). w.object.0) _ ws k.once;
+          once = once-filtered (λ (w : Watch). w.object.0) (λ w. not (same w.object x)) ws k.once;
           held = λ q. watch-put l1.nodes.pairs n2.pairs x.0 None taken q ∙ ap (cond (nat_eq x.0 q) None) (same q ∙ k.held q) ∙ sym (watch-left ws x q);
           count = let g = length-gone ws x k.once (ap is_some watch-there) in let all = k.count in omega (arith, len, fewer, g, all);
           noted = holders-gone (map.get h) (map.get h') ws k.noted x (watching x.0 v) k.once watch-there noted;
           lane = lane-nodes l1 n2 _ _ (λ c q m. sides-put l1.nodes.pairs n2.pairs x.0 None taken q (away c q m)) (λ c q m. stamp-put l1.nodes.pairs n2.pairs x.0 None taken q (away c q m)) left-now;
-          open_ones = λ c. open c ∙ k.open_ones c;
+          open_ones = λ c. opens c ∙ k.open_ones c;
         }
 
       -- ---- going to the end
@@ -161,7 +162,7 @@ module _ (l : Lane) (h : Holders) (ws : List Watch) (cs : List Obj) (k : IsKept 
 
         pub keeps-behind : IsKept l2 h (unwatched ws x ++ w ∷ []) cs
         keeps-behind = record {
-          once = once-added (λ (u : Watch). u.object.0) (unwatched ws x) w (once-filtered (λ (u : Watch). u.object.0) _ ws k.once) absent;
+          once = once-added (λ (u : Watch). u.object.0) (unwatched ws x) w (once-filtered (λ (u : Watch). u.object.0) (λ u. not (same u.object x)) ws k.once) absent;
           held = λ q. now q ∙ ap (cond (nat_eq x.0 q) (Some w)) (same q ∙ k.held q) ∙ cover (nat_eq x.0 q) (watch_of ws (numbered q))
               ∙ ap (cond (nat_eq x.0 q) (Some w)) (sym (watch-left ws x q)) ∙ ap (λ (y : ℕ). cond (nat_eq y q) (Some w) (watch_of (unwatched ws x) (numbered q))) (sym nx)
               ∙ sym (watch-joined (unwatched ws x) w q absent);
@@ -170,7 +171,7 @@ module _ (l : Lane) (h : Holders) (ws : List Watch) (cs : List Obj) (k : IsKept 
           lane = lane-is l2 _ (context_in (unwatched ws x ++ w ∷ [])) _ (lane_in (unwatched ws x ++ w ∷ []))
               (λ q. context-joined (unwatched ws x) w q absent ∙ ap (λ (y : ℕ). placed (context_in (unwatched ws x)) y (context_of w) q) nx)
               (λ d. lane-joined (unwatched ws x) w d ∙ ap (λ (y : ℕ). lanes_joined (lane_in (unwatched ws x)) y (context_of w) d) nx) joined;
-          open_ones = λ c. open2 c ∙ open c ∙ k.open_ones c;
+          open_ones = λ c. open2 c ∙ opens c ∙ k.open_ones c;
         }
 
       -- one that has come goes behind all others
@@ -211,7 +212,7 @@ module _ (l : Lane) (h : Holders) (ws : List Watch) (cs : List Obj) (k : IsKept 
       (joined : (K : ℕ → Option ℕ) (F : ℕ → List ℕ) → IsLane (record l { nodes = n1 }) K F → K x.0 ≡ None → is_there (record l { nodes = n1 }) x.0 ≡ true
       → IsLane l2 (placed K x.0 (option_map number_of v.context)) (lanes_joined F x.0 (option_map number_of v.context)))
       (same : (q : ℕ) → watch_at l2.nodes.pairs q ≡ watch_at n1.pairs q) (len : map.len l2.nodes.pairs ≡ map.len n1.pairs)
-      (open : (d : ℕ) → is_some (map.get l2.ends d) ≡ is_some (map.get l.ends d))
+      (opens : (d : ℕ) → is_some (map.get l2.ends d) ≡ is_some (map.get l.ends d))
       (noted : (q : ℕ) → map.get h' q ≡ cond (nat_eq v.fd q) (Some x.0) (map.get h q)) where
     put : (q : ℕ) → map.get n1.pairs q ≡ cond (nat_eq x.0 q) (Some v) (map.get l.nodes.pairs q)
     put q = ap (λ (m : Nodes). map.get m q) added ∙ get-with_entry l.nodes.pairs x.0 (Some v) q
@@ -232,7 +233,7 @@ module _ (l : Lane) (h : Holders) (ws : List Watch) (cs : List Obj) (k : IsKept 
           (joined (context_in ws) (lane_in ws)
           (lane-nodes l n1 _ _ (λ c q m. sides-put l.nodes.pairs n1.pairs x.0 (Some v) put q (beside c q m)) (λ c q m. stamp-put l.nodes.pairs n1.pairs x.0 (Some v) put q (beside c q m)) k.lane)
           nowhere (ap is_some (watch-put l.nodes.pairs n1.pairs x.0 (Some v) put x.0) ∙ rw (eqb-self x.0) refl));
-      open_ones = λ c. open c ∙ k.open_ones c;
+      open_ones = λ c. opens c ∙ k.open_ones c;
     }
 
   -- ---- watching otherwise

@@ -1,5 +1,5 @@
 -- What leaving a lane in place and joining it leave of all lanes.
-use Rattle.std.proofs.Common.{◌≡◌, ℕ, ◌+◌, ◌-◌, ◌^◌, ◌<◌, min, Bool, true, false, cond, nat_eq, List, ◌∷◌, Option, Some, None, is_some, refl, sym, ap, ◌∙◌, arith}
+use Rattle.std.proofs.Common.{◌≡◌, ℕ, ◌+◌, ◌-◌, ◌^◌, ◌<◌, Bool, true, false, cond, nat_eq, List, ◌∷◌, Option, Some, None, is_some, refl, sym, ap, ◌∙◌, arith}
 use Rattle.std.proofs.lemmas.Bool.{eqb-true}
 use Rattle.std.specs.Option.{option_map}
 use Rattle.std.specs.FinMap as map
@@ -27,6 +27,10 @@ pub open-set : (m m' : Lanes) (c : ℕ) (e : Extent) → is_some (map.get m c) �
 open-set m m' c e known set d = ap (λ (n : Lanes). is_some (map.get n d)) set ∙ ap is_some (get-with_entry m c (Some e) d) ∙ by_test (nat_eq c d)
     (λ t. rw t (sym (ap (λ (k : ℕ). is_some (map.get m k)) (sym (eqb-true c d t)) ∙ known)))
     (λ t. rw t refl)
+
+-- the neighbours of one that joins, where this is the newest
+abbrev pub alone : Option ℕ → Sides
+alone o = record { newer = None; older = o }
 
 abbrev at_other : Option ℕ → (Sides → Sides) → (ℕ → Option Sides) → ℕ → Option Sides
 at_other o f C q = cond (is_at o q) (option_map f (C q)) (C q)
@@ -68,16 +72,16 @@ module _ (l : Lane) (n : Held Node) (ends : Lanes) (K : ℕ → Option ℕ) (F :
     stamps = λ b d. fall-same (stamp_at l.nodes.pairs) (stamp_at n.pairs) l.next_stamp (without (F d) x) (λ q _. stamps q) (fall-without (stamp_at l.nodes.pairs) l.next_stamp (F d) x (k.stamps b d));
   }
 
-module _ (l : Lane) (n : Held Node) (ends : Lanes) (next : ℕ) (more : next ≡ min (l.next_stamp + 1) (2 ^ 64 - 1)) (K : ℕ → Option ℕ) (F : ℕ → List ℕ) (k : IsLane l K F) (x c : ℕ) (e : Extent)
+module _ (l : Lane) (n : Held Node) (ends : Lanes) (next : ℕ) (more : next < 2 ^ 64 - 1 → (l.next_stamp < next) × (l.next_stamp < 2 ^ 64 - 1)) (K : ℕ → Option ℕ) (F : ℕ → List ℕ) (k : IsLane l K F) (x c : ℕ) (e : Extent)
     (out : K x ≡ None) (there : is_there l x ≡ true) (at : map.get l.ends c ≡ Some e) (N : ℕ → Option Sides) (S : ℕ → Option ℕ)
     (newers : (q : ℕ) → N q ≡ at_other e.newest (noted (Newer (Some x))) (sides_at l.nodes.pairs) q)
     (still : (q : ℕ) → S q ≡ stamp_at l.nodes.pairs q)
-    (own : (q : ℕ) → sides_at n.pairs q ≡ cond (nat_eq x q) (option_map (λ (_ : Sides). record { newer = None; older = e.newest }) (N q)) (N q))
+    (own : (q : ℕ) → sides_at n.pairs q ≡ cond (nat_eq x q) (option_map (λ (_ : Sides). alone e.newest) (N q)) (N q))
     (stamped : (q : ℕ) → stamp_at n.pairs q ≡ cond (nat_eq x q) (option_map (λ (_ : ℕ). l.next_stamp) (S q)) (S q))
     (set : ends ≡ map.insert l.ends c (joined_by x e)) where
-  sides-now : (q : ℕ) → sides_at n.pairs q ≡ cond (nat_eq x q) (Some (record { newer = None; older = e.newest })) (at_other e.newest (newer_as (Some x)) (sides_at l.nodes.pairs) q)
+  sides-now : (q : ℕ) → sides_at n.pairs q ≡ cond (nat_eq x q) (Some (alone e.newest)) (at_other e.newest (newer_as (Some x)) (sides_at l.nodes.pairs) q)
   sides-now q = own q ∙ by_test (nat_eq x q)
-      (λ t. rw t (ap (option_map (λ (_ : Sides). record { newer = None; older = e.newest })) (newers q) ∙ go q t))
+      (λ t. rw t (ap (option_map (λ (_ : Sides). alone e.newest)) (newers q) ∙ go q t))
       (λ t. rw t (newers q))
     where
       some : (b : Bool) (o : Option Sides) (v : Sides) → o ≡ Some v → (s : Sides) → option_map (λ (_ : Sides). s) (cond b (option_map (newer_as (Some x)) o) o) ≡ Some s
@@ -86,9 +90,9 @@ module _ (l : Lane) (n : Held Node) (ends : Lanes) (next : ℕ) (more : next ≡
       some false None v h s = cc
       some false (Some w) v h s = refl
 
-      go : (q : ℕ) → nat_eq x q ≡ true → option_map (λ (_ : Sides). record { newer = None; older = e.newest }) (at_other e.newest (newer_as (Some x)) (sides_at l.nodes.pairs) q) ≡ Some (record { newer = None; older = e.newest })
+      go : (q : ℕ) → nat_eq x q ≡ true → option_map (λ (_ : Sides). alone e.newest) (at_other e.newest (newer_as (Some x)) (sides_at l.nodes.pairs) q) ≡ Some (alone e.newest)
       go q t = let f = there-sides l.nodes.pairs x there in
-          some (is_at e.newest q) (sides_at l.nodes.pairs q) f.0 (ap (sides_at l.nodes.pairs) (sym (eqb-true x q t)) ∙ f.1) (record { newer = None; older = e.newest })
+          some (is_at e.newest q) (sides_at l.nodes.pairs q) f.0 (ap (sides_at l.nodes.pairs) (sym (eqb-true x q t)) ∙ f.1) (alone e.newest)
 
   joined : (d : ℕ) → map.get ends d ≡ cond (nat_eq c d) (Some (joined_by x e)) (map.get l.ends d)
   joined d = ap (λ (m : Lanes). map.get m d) set ∙ get-with_entry l.ends c (Some (joined_by x e)) d
@@ -100,8 +104,8 @@ module _ (l : Lane) (n : Held Node) (ends : Lanes) (next : ℕ) (more : next ≡
   fall b d =
       let s = there-stamp l.nodes.pairs x there in
       let nowhere = stands_nowhere K (sides_at l.nodes.pairs) (map.get l.ends) F k.family d x out in
-      let less : l.next_stamp < next = omega (arith, more, b) in
-      let before : l.next_stamp < 2 ^ 64 - 1 = omega (arith, more, b) in
+      let less : l.next_stamp < next = (more b).0 in
+      let before : l.next_stamp < 2 ^ 64 - 1 = (more b).1 in
       let off : (q : ℕ) → has (F d) q ≡ true → stamp_at n.pairs q ≡ stamp_at l.nodes.pairs q =
       λ q h. let t : nat_eq x q ≡ false = false_by _ (λ u. not_both h (ap (has (F d)) (sym (eqb-true x q u)) ∙ nowhere)) in stamp-now q ∙ rw t refl in
       by_test (nat_eq c d)

@@ -200,7 +200,9 @@ watch_in ws q = watch_of ws (numbered q)
 
 pub listed-numbers : (ws : List Watch) → AreEventsOnce ws → listed (watch_in ws) (numbers_of ws) ≡ ws
 listed-numbers [] a = refl
-listed-numbers (w ∷ ws) a = listed-append (watch_in (w ∷ ws)) (numbers_of ws) w.object.0 ∙ (λ i. listed_one (own i) ++ rest i)
+listed-numbers (w ∷ ws) a =
+    let rest : listed (watch_in (w ∷ ws)) (numbers_of ws) ≡ ws = listed-same (watch_in ws) (watch_in (w ∷ ws)) (numbers_of ws) still ∙ listed-numbers ws a.1 in
+    listed-append (watch_in (w ∷ ws)) (numbers_of ws) w.object.0 ∙ (λ i. listed_one (own i) ++ rest i)
   where
     own : watch_in (w ∷ ws) w.object.0 ≡ Some w
     own = rw (eqb-self w.object.0) refl
@@ -211,8 +213,6 @@ listed-numbers (w ∷ ws) a = listed-append (watch_in (w ∷ ws)) (numbers_of ws
     still : (q : ℕ) → has (numbers_of ws) q ≡ true → watch_in (w ∷ ws) q ≡ watch_in ws q
     still q m = let t = off q m in rw t refl
 
-    rest : listed (watch_in (w ∷ ws)) (numbers_of ws) ≡ ws
-    rest = listed-same (watch_in ws) (watch_in (w ∷ ws)) (numbers_of ws) still ∙ listed-numbers ws a.1
 
 -- ---- one fewer
 

@@ -21,7 +21,8 @@ set-requires c = ap is_some c.requires.1
 
 pub returns-clause-lane : goal.returns-clause-lane
 returns-clause-lane c = λ K F k out there.
-    joins c.args.self.now c.set_place.new.nodes c.set.new.self c.saturating_add-self.result c.saturating_add-self.ensures K F k c.args.x c.args.c.0 c.unwrap-ends.result out there (sym c.get.ensures ∙ c.unwrap-ends.ensures)
+    let r = c.saturating_add-self.ensures in
+    joins c.args.self.now c.set_place.new.nodes c.set.new.self c.saturating_add-self.result (λ b. (omega (arith, r, b), omega (arith, r, b))) K F k c.args.x c.args.c.0 c.unwrap-ends.result out there (sym c.get.ensures ∙ c.unwrap-ends.ensures)
     (sides_at c.set_link.new.nodes.pairs) (stamp_at c.set_link.new.nodes.pairs)
     c.set_link.ensures.sides c.set_link.ensures.stamps c.set_place.ensures.sides c.set_place.ensures.stamps
     (c.set.ensures ∙ ap (map.insert c.args.self.now.ends c.args.c.0) c.joined.ensures)
