@@ -132,7 +132,7 @@ module _ (l : Lane) (h : Holders) (ws : List Watch) (cs : List Obj) (k : IsKept 
 
         pub keeps-gone : IsKept (record l1 { nodes = n2 }) h' (unwatched ws x) cs
         keeps-gone = record {
-          once = once-filtered (λ (w : Watch). w.object.0) (λ w. not (same w.object x)) ws k.once;
+          once = once-filtered (λ (w : Watch). w.object.0) (λ w. not (nat_eq w.object.0 x.0)) ws k.once;
           held = λ q. watch-put l1.nodes.pairs n2.pairs x.0 None taken q ∙ ap (cond (nat_eq x.0 q) None) (same q ∙ k.held q) ∙ sym (watch-left ws x q);
           count = let g = length-gone ws x k.once (ap is_some watch-there) in let all = k.count in omega (arith, len, fewer, g, all);
           noted = holders-gone (map.get h) (map.get h') ws k.noted x (watching x.0 v) k.once watch-there noted;
@@ -162,7 +162,7 @@ module _ (l : Lane) (h : Holders) (ws : List Watch) (cs : List Obj) (k : IsKept 
 
         pub keeps-behind : IsKept l2 h (unwatched ws x ++ w ∷ []) cs
         keeps-behind = record {
-          once = once-added (λ (u : Watch). u.object.0) (unwatched ws x) w (once-filtered (λ (u : Watch). u.object.0) (λ u. not (same u.object x)) ws k.once) absent;
+          once = once-added (λ (u : Watch). u.object.0) (unwatched ws x) w (once-filtered (λ (u : Watch). u.object.0) (λ u. not (nat_eq u.object.0 x.0)) ws k.once) absent;
           held = λ q. now q ∙ ap (cond (nat_eq x.0 q) (Some w)) (same q ∙ k.held q) ∙ cover (nat_eq x.0 q) (watch_of ws (numbered q))
               ∙ ap (cond (nat_eq x.0 q) (Some w)) (sym (watch-left ws x q)) ∙ ap (λ (y : ℕ). cond (nat_eq y q) (Some w) (watch_of (unwatched ws x) (numbered q))) (sym nx)
               ∙ sym (watch-joined (unwatched ws x) w q absent);

@@ -26,5 +26,4 @@ returns-in_default-clause-watches c =
     let none : watch_of c.args.self.now.watches c.args.x ≡ None =
     sym (ap (λ (r : Rotation). watch_of r.watches c.args.x) c.self.view_is) ∙ sym (c.self.invariant.held c.args.x.0)
     ∙ ap (option_map (watching c.args.x.0)) (sym c.node.ensures ∙ c.in_default.is) in
-    ap (λ (r : Rotation). r.watches) c.self.view_is
-    ∙ sym (ap (λ o. behind_all (unwatched c.args.self.now.watches c.args.x) (option_map lost o)) none ∙ unwatched-none c.args.self.now.watches c.args.x (ap is_some none))
+    sym (ap (λ o. behind_all (unwatched c.args.self.now.watches c.args.x) (option_map lost o)) none ∙ unwatched-none c.args.self.now.watches c.args.x (ap is_some none))

@@ -21,8 +21,7 @@ returns-in_err-node-clause-watch c =
 
 pub returns-in_err-node-clause-watches : goal.returns-in_err-node-clause-watches
 returns-in_err-node-clause-watches c =
-    ap (λ (r : Rotation). r.watches) c.self.view_is
-    ∙ sym (unwatched-none c.args.self.now.watches c.args.x (ap is_some (sym (returns-in_err-node-clause-watch c) ∙ c.from_residual.ensures)))
+    sym (unwatched-none c.args.self.now.watches c.args.x (ap is_some (sym (returns-in_err-node-clause-watch c) ∙ c.from_residual.ensures)))
 
 -- ---- one that watches
 
