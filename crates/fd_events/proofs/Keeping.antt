@@ -3,7 +3,6 @@ use Rattle.std.proofs.Common.{◌≡◌, ℕ, suc, ◌+◌, ◌-◌, ◌<◌, �
 use Rattle.std.proofs.lemmas.Bool.{eqb-true}
 use Rattle.std.proofs.lemmas.List.{length-append, length-map}
 use Rattle.std.specs.Prelude.{not}
-use Rattle.std.specs.List.{find}
 use Rattle.std.specs.Option.{option_map, option_and_then}
 use Rattle.std.specs.Ordering.{nat_cmp}
 use Rattle.std.specs.FinMap as map
@@ -24,14 +23,15 @@ use Rattle.lane_ends.specs.Lanes.{Lanes, without_lane}
 use Rattle.fd_events.specs.declared.node.Node.{Node}
 use Rattle.fd_events.specs.declared.lane.Lane.{Lane}
 use Rattle.fd_events.specs.declared.change.Change.{Change}
-use Rattle.fd_events.specs.Rotation.{AreEventsOnce, is_context, without_context, lost_one}
+use Rattle.tree_specs.specs.Events.Contexts.{has_context, without_context}
+use Rattle.tree_specs.proofs.Events.KnownContexts.{opened-kept, closed-kept, closed-first-kept}
+use Rattle.fd_events.specs.Rotation.{AreEventsOnce, lost_one}
 use Rattle.fd_events.specs.Changes.{changed, recontexted, watches_of, contexts_of}
 use Rattle.fd_events.specs.Linked.{numbered, number_of, sides_of, stamp_of, sides_at, stamp_at, watch_at, watching, with_loss, context_of, context_in, numbers_of, lane_in, placed, lanes_joined, lanes_left, HasSome, HasFewer, OnContext, is_there, IsLane, AreHolders, IsKept}
 use Rattle.fd_events.proofs.Nodes.{sides-put, stamp-put, watch-put, read-changed, read-same}
 use Rattle.fd_events.proofs.Holding.{none, once-added, once-filtered, once-changed, watch-object, gone-fd, holders-added, holders-gone, holders-changed, holders-again, is-free}
 use Rattle.fd_events.proofs.Lanes.{lane-is, lane-nodes, lane-nowhere}
 use Rattle.fd_events.proofs.Rings.{watch-joined, watch-left, watch-changed, context-joined, context-left, context-changed, lane-joined, lane-left, lane-changed, lane-length, length-gone}
-use Rattle.fd_events.proofs.Contexts.{some_unless, opened, closed}
 use Rattle.fd_events.proofs.Changes.{watches-noted, contexts-noted}
 
 abbrev pub Nodes : Type 0
@@ -54,11 +54,11 @@ module _ (l : Lane) (h : Holders) (ws : List Watch) (cs : List Obj) (k : IsKept 
   pub none-there : (x : Obj) → is_watching ws x ≡ false → map.get l.nodes.pairs x.0 ≡ None
   none-there x absent = none-read (watching x.0) (map.get l.nodes.pairs x.0) (k.held x.0 ∙ none _ absent)
 
-  pub open-lane : (c : Obj) → is_context cs c ≡ true → (e : Extent) × (map.get l.ends c.0 ≡ Some e)
+  pub open-lane : (c : Obj) → has_context cs c ≡ true → (e : Extent) × (map.get l.ends c.0 ≡ Some e)
   open-lane c known = some-from (map.get l.ends c.0) (k.open_ones c.0 ∙ known)
 
   -- in a lane of one more event fewer stand than there are
-  pub has-fewer : (c : Obj) (n : ℕ) → is_context cs c ≡ true → n ≡ map.len l.nodes.pairs + 1 → HasFewer l.ends n c.0
+  pub has-fewer : (c : Obj) (n : ℕ) → has_context cs c ≡ true → n ≡ map.len l.nodes.pairs + 1 → HasFewer l.ends n c.0
   has-fewer c n known more =
       let o = open-lane c known in
       let s = (k.lane.family.told c.0 o.0 o.1).count in
@@ -271,29 +271,10 @@ module _ (l : Lane) (h : Holders) (ws : List Watch) (cs : List Obj) (k : IsKept 
         count = k.count;
         noted = k.noted;
         lane = record { family = grown-family _ _ (map.get l.ends) (lane_in ws) k.lane.family c.0 (map.get ends) fresh added; stamps = k.lane.stamps };
-        open_ones = λ d. ap is_some (added d) ∙ by_test (nat_eq c.0 d)
-            (λ t. ap (λ b. is_some (cond b (Some no_ends) (map.get l.ends d))) t ∙ sym (opened cs c (numbered d) ∙ ap (λ b. b || is_context cs (numbered d)) t))
-            (λ t. ap (λ b. is_some (cond b (Some no_ends) (map.get l.ends d))) t ∙ k.open_ones d ∙ sym (opened cs c (numbered d) ∙ ap (λ b. b || is_context cs (numbered d)) t));
+        open_ones = λ d. opened-kept (map.get l.ends) (map.get ends) cs (λ e. k.open_ones e.0) c no_ends added (numbered d);
       }
 
   module _ (c : Obj) (nothing : ring_in ws c ≡ []) where
-    -- the first one stays
-    closed-first : (d : ℕ) → nat_eq c.0 0 ≡ true → is_context cs (numbered d) ≡ is_context (without_context cs c) (numbered d)
-    closed-first d t = by_test (same first_context (numbered d))
-        (λ u. rw u refl)
-        (λ u. let n : same c (numbered d) ≡ false = ap (λ (b : ℕ). nat_eq b d) (eqb-true c.0 0 t) ∙ u in
-        rw u (sym (closed cs c (numbered d) ∙ ap (λ b. cond b false (is_some (find (λ e. same e (numbered d)) cs))) n)))
-
-    closed-other : (d : ℕ) → nat_eq c.0 0 ≡ false → cond (nat_eq c.0 d) false (is_context cs (numbered d)) ≡ is_context (without_context cs c) (numbered d)
-    closed-other d t = by_test (nat_eq c.0 d)
-        (λ u. let n : same first_context (numbered d) ≡ false = not-first d u in
-        rw u (sym (ap (λ b. b || is_some (find (λ e. same e (numbered d)) (without_context cs c))) n
-        ∙ closed cs c (numbered d) ∙ ap (λ b. cond b false (is_some (find (λ e. same e (numbered d)) cs))) u)))
-        (λ u. rw u (ap (λ b. same first_context (numbered d) || b) (sym (closed cs c (numbered d) ∙ ap (λ b. cond b false (is_some (find (λ e. same e (numbered d)) cs))) u))))
-      where
-        not-first : (d : ℕ) → nat_eq c.0 d ≡ true → nat_eq 0 d ≡ false
-        not-first d u = ap (nat_eq 0) (sym (eqb-true c.0 d u)) ∙ eqb-sym 0 c.0 ∙ t
-
     pub keeps-closed : (ends : Lanes) → ends ≡ without_lane l.ends c.0 → IsKept (record l { ends = ends }) h ws (without_context cs c)
     keeps-closed ends set = by_test (nat_eq c.0 0)
         (λ t. let same_ends : ends ≡ l.ends = rw t at set in record {
@@ -302,7 +283,7 @@ module _ (l : Lane) (h : Holders) (ws : List Watch) (cs : List Obj) (k : IsKept 
           count = k.count;
           noted = k.noted;
           lane = record { family = subst (λ (n : Lanes). Family (context_in ws) (sides_at l.nodes.pairs) (map.get n) (lane_in ws)) (sym same_ends) k.lane.family; stamps = k.lane.stamps };
-          open_ones = λ d. ap (λ (n : Lanes). is_some (map.get n d)) same_ends ∙ k.open_ones d ∙ closed-first d t;
+          open_ones = λ d. closed-first-kept (map.get l.ends) (map.get ends) cs (λ e. k.open_ones e.0) c t (λ e. ap (λ (n : Lanes). map.get n e) same_ends) (numbered d);
         })
         (λ t. let removed : ends ≡ map.remove l.ends c.0 = rw t at set in
         let dropped : (d : ℕ) → map.get ends d ≡ cond (nat_eq c.0 d) None (map.get l.ends d) =
@@ -312,7 +293,7 @@ module _ (l : Lane) (h : Holders) (ws : List Watch) (cs : List Obj) (k : IsKept 
           count = k.count;
           noted = k.noted;
           lane = record { family = shrunk-family _ _ (map.get l.ends) (lane_in ws) k.lane.family c.0 (map.get ends) (ap numbers_of nothing) dropped; stamps = k.lane.stamps };
-          open_ones = λ d. ap is_some (dropped d) ∙ some_unless (nat_eq c.0 d) (map.get l.ends d) ∙ ap (cond (nat_eq c.0 d) false) (k.open_ones d) ∙ closed-other d t;
+          open_ones = λ d. closed-kept (map.get l.ends) (map.get ends) cs (λ e. k.open_ones e.0) c t dropped (numbered d);
         })
 
 -- ---- nothing

@@ -5,7 +5,6 @@ pub mod Rings
 pub mod Stamps
 pub mod Lanes
 pub mod Moving
-pub mod Contexts
 pub mod Changes
 pub mod Keeping
 pub mod Walking

@@ -2,10 +2,11 @@
 use Rattle.std.specs.Prelude.{List, [], ◌∷◌, ◌++◌, fold}
 use Rattle.tree_specs.specs.declared.object.Obj.{Obj}
 use Rattle.tree_specs.specs.declared.watch.Watch.{Watch}
+use Rattle.tree_specs.specs.Events.Contexts.{without_context}
 use Rattle.tree_specs.specs.Events.Rotation.{unwatched, rewatched, flagged, closing, turned_back}
 use Rattle.fd_events.specs.declared.change.Change.{Change}
 use Rattle.fd_events.specs.declared.change.Change.TheVariants.{Joins, Leaves, SetsFlags, SetsClosing, Turns, Loses, Opens, Closes}
-use Rattle.fd_events.specs.Rotation.{without_context, lost_one}
+use Rattle.fd_events.specs.Rotation.{lost_one}
 
 -- how each event watches after a change
 abbrev pub changed : List Watch → Change → List Watch

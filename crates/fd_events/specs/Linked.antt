@@ -6,6 +6,7 @@ use Rattle.std.specs.FinMap as map
 use Rattle.tree_specs.specs.declared.object.Obj.{Obj}
 use Rattle.tree_specs.specs.declared.watch.Watch.{Watch}
 use Rattle.tree_specs.specs.Words.Objects.{same}
+use Rattle.tree_specs.specs.Events.Contexts.{has_context}
 use Rattle.tree_specs.specs.Events.Rotation.{holder_of, watch_of, ring_in}
 use Rattle.linked_lanes.specs.declared.Sides.{Sides}
 use Rattle.linked_lanes.specs.declared.lane.Extent.{Extent}
@@ -15,7 +16,7 @@ use Rattle.lane_ends.specs.Lanes.{Lanes}
 use Rattle.fd_events.specs.declared.node.Node.{Node}
 use Rattle.fd_events.specs.declared.lane.Lane.{Lane}
 use Rattle.fd_events.specs.declared.ring.Place.{Place}
-use Rattle.fd_events.specs.Rotation.{AreEventsOnce, AreDescriptorsOnce, is_context}
+use Rattle.fd_events.specs.Rotation.{AreEventsOnce, AreDescriptorsOnce}
 
 abbrev pub numbered : ℕ → Obj
 numbered n = record { 0 = n }
@@ -141,7 +142,7 @@ pub record IsKept (l : Lane) (holders : map.FinMap nat_cmp ℕ) (ws : List Watch
   pub count : map.len l.nodes.pairs ≡ length ws
   pub noted : AreHolders (map.get holders) ws
   pub lane : IsLane l (context_in ws) (lane_in ws)
-  pub open_ones : (c : ℕ) → is_some (map.get l.ends c) ≡ is_context cs (numbered c)
+  pub open_ones : (c : ℕ) → is_some (map.get l.ends c) ≡ has_context cs (numbered c)
 
 -- ---- a walk over the rotation
 

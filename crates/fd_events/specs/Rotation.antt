@@ -1,10 +1,9 @@
 -- The rotation as its callers see it.
-use Rattle.std.specs.Prelude.{◌≡◌, ℕ, Bool, false, not, ◌||◌, nat_eq, is_some, if◌then◌else◌, List, [], ◌∷◌, Option}
-use Rattle.std.specs.List.{find, filter}
+use Rattle.std.specs.Prelude.{◌≡◌, ℕ, false, nat_eq, is_some, List, [], ◌∷◌}
+use Rattle.std.specs.List.{find}
 use Rattle.std.specs.Option.{option_map}
 use Rattle.tree_specs.specs.declared.object.Obj.{Obj}
 use Rattle.tree_specs.specs.declared.watch.Watch.{Watch}
-use Rattle.tree_specs.specs.Words.Objects.{same, first_context}
 use Rattle.tree_specs.specs.Events.Rotation.{Ready, watch_of, unwatched, behind_all, lost}
 use Rattle.fd_events.specs.declared.ready.ReadyEvent.{ReadyEvent}
 
@@ -32,18 +31,6 @@ AreDescriptorsOnce ws = AreOnceBy (λ w. w.fd) ws
 -- the event that comes, as a program has it
 abbrev pub ready_event : Ready → ReadyEvent
 ready_event r = record { object = r.object; flags = r.flags }
-
--- ---- contexts
-
--- the first one always is there
-abbrev pub is_context : List Obj → Obj → Bool
-is_context cs c = same first_context c || is_some (find (λ d. same d c) cs)
-
-abbrev pub with_context : List Obj → Obj → List Obj
-with_context cs c = if is_context cs c then cs else c ∷ cs
-
-abbrev pub without_context : List Obj → Obj → List Obj
-without_context cs c = filter (λ d. not (same d c)) cs
 
 abbrev pub object_of : Watch → Obj
 object_of w = w.object

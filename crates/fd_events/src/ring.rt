@@ -87,7 +87,8 @@ fn push_want(out: &mut Vec<Want>, watch: Watch) -> Result<(), Memory>
 impl Ring {
     ghost use Rattle.std.specs.Prelude.{◌+◌, ◌<◌, ◌≤◌, ◌↔◌, IsTrue, OnErr, length, slice_get, true, false};
     ghost use Rattle.tree_specs.specs.Events.Rotation.{watch_of, is_watching, flags_of, holder_of, is_watched, watched, unwatched, rewatched, flagged, closing, turned_back, ring_in, ring_without};
-    ghost use Rattle.fd_events.specs.Rotation.{AreEventsOnce, AreDescriptorsOnce, is_context, with_context, without_context, object_of, lost_one};
+    ghost use Rattle.tree_specs.specs.Events.Contexts.{has_context, with_context, without_context};
+    ghost use Rattle.fd_events.specs.Rotation.{AreEventsOnce, AreDescriptorsOnce, object_of, lost_one};
     ghost use Rattle.fd_events.specs.Linked.{from_on, IsPlace};
 
     /// No events, and the first context is the only one.
@@ -141,7 +142,7 @@ impl Ring {
         requires room { 0 < self.old.spare }
         requires absent { is_watching self.old.watches x ≡ false }
         requires free { is_watched self.old.watches fd ≡ false }
-        requires known { is_context self.old.contexts c ≡ true }
+        requires known { has_context self.old.contexts c ≡ true }
         ensures watches { self.new.watches ≡ watched self.old.watches x fd flags c }
         ensures contexts { self.new.contexts ≡ self.old.contexts }
         ensures spare { self.old.spare ≤ self.new.spare + 1 }

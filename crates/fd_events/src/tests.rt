@@ -1,5 +1,5 @@
 ghost use Rattle.std.specs.Prelude.{◌≡◌, ◌+◌, ◌≤◌, ◌<◌, IfOk, true};
-ghost use Rattle.fd_events.specs.Rotation.{is_context};
+ghost use Rattle.tree_specs.specs.Events.Contexts.{has_context};
 
 use crate::{ReadyEvent, Ring};
 use std::alloc::Global;
@@ -287,7 +287,7 @@ fn many_leave_downward_and_then_upward(rt: HostRuntime) -> Result<(), Fail> {
 // Each event joins in this context. Answers whether it was free; if not, nothing changes.
 fn add_in(ring: &mut Ring, x: u64, fd: u32, c: Obj) -> bool
     requires room { 0 < ring.old.spare }
-    requires known { is_context ring.old.contexts c ≡ true }
+    requires known { has_context ring.old.contexts c ≡ true }
     ensures spare { ring.old.spare ≤ ring.new.spare + 1 }
     ensures contexts { ring.new.contexts ≡ ring.old.contexts }
 {

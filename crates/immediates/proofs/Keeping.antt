@@ -2,13 +2,11 @@
 use Rattle.std.proofs.Common.{◌≡◌, ℕ, ◌+◌, ◌<◌, Bool, true, false, cond, ◌||◌, nat_eq, List, [], ◌∷◌, ◌++◌, Option, Some, None, IsSome, is_some, refl, sym, ap, subst, ◌∙◌, arith}
 use Rattle.std.proofs.lemmas.Bool.{eqb-true}
 use Rattle.std.proofs.lemmas.List.{length-append}
-use Rattle.std.specs.List.{find}
 use Rattle.std.specs.Option.{option_map}
 use Rattle.std.specs.Ordering.{nat_cmp}
 use Rattle.std.specs.FinMap as map
 use Rattle.std.specs.FinMap.{get-empty, len-empty}
 use Rattle.tree_specs.specs.declared.object.Obj.{Obj}
-use Rattle.tree_specs.specs.Words.Objects.{same}
 use Rattle.pool_arena.proofs.Keeps.{get-with_entry}
 use Rattle.pool_arena.proofs.Steps.{len-new, len-gone}
 use Rattle.linked_lanes.specs.declared.lane.Extent.{Extent}
@@ -16,21 +14,21 @@ use Rattle.linked_lanes.specs.declared.Link.TheVariants.{Newer, Older}
 use Rattle.linked_lanes.specs.Lane.{is_at}
 use Rattle.linked_lanes.specs.Chain.{noted}
 use Rattle.linked_lanes.specs.Family.{Family, no_ends, joined_by, left_by}
-use Rattle.linked_lanes.proofs.Lanes.{by_test, eqb-sym}
+use Rattle.linked_lanes.proofs.Lanes.{by_test}
 use Rattle.linked_lanes.proofs.Families.{same-family, found-count, left-family, joined-family, grown-family, shrunk-family}
 use Rattle.lane_ends.specs.Lanes.{Lanes, without_lane}
 use Rattle.tree_specs.specs.declared.coming.Coming.{Coming}
 use Rattle.immediates.specs.declared.node.Node.{Node}
 use Rattle.immediates.specs.declared.change.Change.{Change}
 use Rattle.immediates.specs.Changes.{changed, recontexted, coming_of, contexts_of}
-use Rattle.tree_specs.specs.Words.Objects.{first_context}
 use Rattle.tree_specs.specs.Events.Pending.{is_scheduled, unscheduled, soon_in}
-use Rattle.immediates.specs.Waiting.{is_context, without_context}
+use Rattle.tree_specs.specs.Events.Contexts.{without_context}
+use Rattle.tree_specs.proofs.Events.KnownContexts.{opened-kept, closed-kept, closed-first-kept}
 use Rattle.immediates.specs.Linked.{IsKept, numbered, lane_in, context_in, context_of, context_at, sides_of, sides_at}
 use Rattle.immediates.proofs.Once.{once-added, once-without, length-gone}
 use Rattle.immediates.proofs.Lanes.{lane-joined, lane-left, lane-length, soon-none}
 use Rattle.immediates.proofs.Changes.{coming-noted, contexts-noted}
-use Rattle.immediates.proofs.Contexts.{scheduled-context, context-left, context-joined, opened, closed}
+use Rattle.immediates.proofs.Contexts.{scheduled-context, context-left, context-joined}
 
 abbrev Nodes : Type 0
 Nodes = map.FinMap nat_cmp Node
@@ -46,10 +44,6 @@ none-from (Some x) e = cc
 none-read : {X : Type 0} (p : Node → X) (o : Option Node) → option_map p o ≡ None → o ≡ None
 none-read p None e = refl
 none-read p (Some v) e = cc
-
-some_unless : {X : Type 0} (b : Bool) (o : Option X) → is_some (cond b None o) ≡ cond b false (is_some o)
-some_unless true o = refl
-some_unless false o = refl
 
 -- ---- nothing
 
@@ -180,29 +174,10 @@ module _ (m : Nodes) (ends : Lanes) (coming : List Coming) (contexts : List Obj)
         held = k.held;
         count = k.count;
         family = grown-family (context_at m) (sides_at m) (map.get ends) (lane_in coming) k.family c.0 (map.get ends') fresh added;
-        open_ones = λ d. ap is_some (added d) ∙ by_test (nat_eq c.0 d)
-            (λ t. ap (λ b. is_some (cond b (Some no_ends) (map.get ends d))) t ∙ sym (opened contexts c (numbered d) ∙ ap (λ b. b || is_context contexts (numbered d)) t))
-            (λ t. ap (λ b. is_some (cond b (Some no_ends) (map.get ends d))) t ∙ k.open_ones d ∙ sym (opened contexts c (numbered d) ∙ ap (λ b. b || is_context contexts (numbered d)) t));
+        open_ones = λ d. opened-kept (map.get ends) (map.get ends') contexts (λ e. k.open_ones e.0) c no_ends added (numbered d);
       }
 
   module _ (c : Obj) (none : soon_in coming c ≡ []) where
-    -- the first one stays
-    closed-first : (d : ℕ) → nat_eq c.0 0 ≡ true → is_context contexts (numbered d) ≡ is_context (without_context contexts c) (numbered d)
-    closed-first d t = by_test (same first_context (numbered d))
-        (λ u. rw u refl)
-        (λ u. let n : same c (numbered d) ≡ false = ap (λ (b : ℕ). nat_eq b d) (eqb-true c.0 0 t) ∙ u in
-        rw u (sym (closed contexts c (numbered d) ∙ ap (λ b. cond b false (is_some (find (λ e. same e (numbered d)) contexts))) n)))
-
-    closed-other : (d : ℕ) → nat_eq c.0 0 ≡ false → cond (nat_eq c.0 d) false (is_context contexts (numbered d)) ≡ is_context (without_context contexts c) (numbered d)
-    closed-other d t = by_test (nat_eq c.0 d)
-        (λ u. let n : same first_context (numbered d) ≡ false = not-first d u in
-        rw u (sym (ap (λ b. b || is_some (find (λ e. same e (numbered d)) (without_context contexts c))) n
-        ∙ closed contexts c (numbered d) ∙ ap (λ b. cond b false (is_some (find (λ e. same e (numbered d)) contexts))) u)))
-        (λ u. rw u (ap (λ b. same first_context (numbered d) || b) (sym (closed contexts c (numbered d) ∙ ap (λ b. cond b false (is_some (find (λ e. same e (numbered d)) contexts))) u))))
-      where
-        not-first : (d : ℕ) → nat_eq c.0 d ≡ true → nat_eq 0 d ≡ false
-        not-first d u = ap (nat_eq 0) (sym (eqb-true c.0 d u)) ∙ eqb-sym 0 c.0 ∙ t
-
     pub keeps-closed : (ends' : Lanes) → ends' ≡ without_lane ends c.0 → IsKept m ends' coming (without_context contexts c)
     keeps-closed ends' set = by_test (nat_eq c.0 0)
         (λ t. let same_ends : ends' ≡ ends = rw t at set in record {
@@ -210,7 +185,7 @@ module _ (m : Nodes) (ends : Lanes) (coming : List Coming) (contexts : List Obj)
           held = k.held;
           count = k.count;
           family = subst (λ (n : Lanes). Family (context_at m) (sides_at m) (map.get n) (lane_in coming)) (sym same_ends) k.family;
-          open_ones = λ d. ap (λ (n : Lanes). is_some (map.get n d)) same_ends ∙ k.open_ones d ∙ closed-first d t;
+          open_ones = λ d. closed-first-kept (map.get ends) (map.get ends') contexts (λ e. k.open_ones e.0) c t (λ e. ap (λ (n : Lanes). map.get n e) same_ends) (numbered d);
         })
         (λ t. let removed : ends' ≡ map.remove ends c.0 = rw t at set in
         let dropped : (d : ℕ) → map.get ends' d ≡ cond (nat_eq c.0 d) None (map.get ends d) =
@@ -219,7 +194,7 @@ module _ (m : Nodes) (ends : Lanes) (coming : List Coming) (contexts : List Obj)
           held = k.held;
           count = k.count;
           family = shrunk-family (context_at m) (sides_at m) (map.get ends) (lane_in coming) k.family c.0 (map.get ends') (soon-none coming c none) dropped;
-          open_ones = λ d. ap is_some (dropped d) ∙ some_unless (nat_eq c.0 d) (map.get ends d) ∙ ap (cond (nat_eq c.0 d) false) (k.open_ones d) ∙ closed-other d t;
+          open_ones = λ d. closed-kept (map.get ends) (map.get ends') contexts (λ e. k.open_ones e.0) c t dropped (numbered d);
         })
 
 -- ---- the history

@@ -5,7 +5,7 @@ use Rattle.tree_specs.specs.declared.coming.Coming.{Coming}
 use Rattle.immediates.specs.declared.change.Change.{Change}
 use Rattle.immediates.specs.declared.change.Change.TheVariants.{Joins, Leaves, Opens, Closes}
 use Rattle.tree_specs.specs.Events.Pending.{unscheduled}
-use Rattle.immediates.specs.Waiting.{without_context}
+use Rattle.tree_specs.specs.Events.Contexts.{without_context}
 
 -- those that come soon after a change
 abbrev pub changed : List Coming → Change → List Coming

@@ -8,8 +8,9 @@ use Rattle.linked_lanes.specs.declared.Sides.{Sides}
 use Rattle.linked_lanes.specs.Family.{Family}
 use Rattle.lane_ends.specs.Lanes.{Lanes}
 use Rattle.tree_specs.specs.declared.coming.Coming.{Coming}
+use Rattle.tree_specs.specs.Events.Contexts.{has_context}
 use Rattle.immediates.specs.declared.node.Node.{Node}
-use Rattle.immediates.specs.Waiting.{AreOnce, is_context}
+use Rattle.immediates.specs.Waiting.{AreOnce}
 
 abbrev pub numbered : ℕ → Obj
 numbered n = record { 0 = n }
@@ -51,4 +52,4 @@ pub record IsKept (m : map.FinMap nat_cmp Node) (ends : Lanes) (coming : List Co
   pub held : (q : ℕ) → context_at m q ≡ context_in coming q
   pub count : map.len m ≡ length coming
   pub family : Family (context_at m) (sides_at m) (map.get ends) (lane_in coming)
-  pub open_ones : (c : ℕ) → is_some (map.get ends c) ≡ is_context contexts (numbered c)
+  pub open_ones : (c : ℕ) → is_some (map.get ends c) ≡ has_context contexts (numbered c)

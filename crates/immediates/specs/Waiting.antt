@@ -1,12 +1,9 @@
 -- What comes soon as callers see it.
-use Rattle.std.specs.Prelude.{◌≡◌, ℕ, Bool, false, ◌||◌, not, is_some, if◌then◌else◌, List, [], ◌∷◌, Option, Some, None}
-use Rattle.std.specs.List.{find, filter}
+use Rattle.std.specs.Prelude.{◌≡◌, ℕ, false, List, [], ◌∷◌, Option, Some, None}
 use Rattle.std.specs.Option.{option_map}
 use Rattle.tree_specs.specs.declared.object.Obj.{Obj}
-use Rattle.tree_specs.specs.Words.Objects.{same}
 use Rattle.tree_specs.specs.Events.Pending.{first}
 use Rattle.tree_specs.specs.declared.coming.Coming.{Coming}
-use Rattle.tree_specs.specs.Words.Objects.{first_context}
 use Rattle.tree_specs.specs.Events.Pending.{is_scheduled, unscheduled, soon_in}
 
 pub record Waiting : Type 0 where
@@ -21,18 +18,6 @@ pub record Waiting : Type 0 where
 abbrev pub AreOnce : List Coming → Type 0
 AreOnce [] = Unit {0}
 AreOnce (y ∷ ys) = (is_scheduled ys y.object ≡ false) × AreOnce ys
-
--- ---- contexts
-
--- the first one always is there
-abbrev pub is_context : List Obj → Obj → Bool
-is_context cs c = same first_context c || is_some (find (λ d. same d c) cs)
-
-abbrev pub with_context : List Obj → Obj → List Obj
-with_context cs c = if is_context cs c then cs else c ∷ cs
-
-abbrev pub without_context : List Obj → Obj → List Obj
-without_context cs c = filter (λ d. not (same d c)) cs
 
 -- ---- the next one
 

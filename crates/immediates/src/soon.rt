@@ -55,7 +55,8 @@ fn obj(number: Option<u64>) -> Option<Obj>
 impl Soon {
     ghost use Rattle.std.specs.Prelude.{◌+◌, ◌<◌, ◌≤◌, ◌↔◌, [], ◌∷◌, ◌++◌, IsTrue, OnOk, OnErr, length, drop, false, true};
     ghost use Rattle.tree_specs.specs.Events.Pending.{is_scheduled, scheduled, unscheduled, soon_in, soon_without};
-    ghost use Rattle.immediates.specs.Waiting.{AreOnce, is_context, with_context, without_context, next_in, left_after};
+    ghost use Rattle.tree_specs.specs.Events.Contexts.{has_context, with_context, without_context};
+    ghost use Rattle.immediates.specs.Waiting.{AreOnce, next_in, left_after};
 
     /// Nothing comes soon, and the first context is the only one.
     pub fn new(alloc: Global) -> Soon
@@ -99,7 +100,7 @@ impl Soon {
     fn join(&mut self, x: Obj, c: Obj)
         requires room { 0 < self.old.spare }
         requires absent { is_scheduled self.old.coming x ≡ false }
-        requires known { is_context self.old.contexts c ≡ true }
+        requires known { has_context self.old.contexts c ≡ true }
         ensures coming { self.new.coming ≡ self.old.coming ++ record { object = x; context = c } ∷ [] }
         ensures contexts { self.new.contexts ≡ self.old.contexts }
         ensures spare { self.old.spare ≤ self.new.spare + 1 }
@@ -132,7 +133,7 @@ impl Soon {
     /// the end of this one.
     pub fn push(&mut self, x: Obj, c: Obj)
         requires room { 0 < self.old.spare }
-        requires known { is_context self.old.contexts c ≡ true }
+        requires known { has_context self.old.contexts c ≡ true }
         ensures coming { self.new.coming ≡ scheduled self.old.coming x c }
         ensures contexts { self.new.contexts ≡ self.old.contexts }
         ensures spare { self.old.spare ≤ self.new.spare + 1 }

@@ -1,5 +1,5 @@
 ghost use Rattle.std.specs.Prelude.{◌≡◌, ◌+◌, ◌≤◌, ◌<◌, ◌^◌, true};
-ghost use Rattle.immediates.specs.Waiting.{is_context};
+ghost use Rattle.tree_specs.specs.Events.Contexts.{has_context};
 
 use crate::Soon;
 use std::test::Fail;
@@ -72,7 +72,7 @@ fn running_out_of_memory_leaves_it_as_it_was(rt: HostRuntime) -> Result<(), Fail
 // Pushes the objects from 1 to `count`, in room that is there.
 fn push_upwards(soon: &mut Soon, count: u64, c: Obj)
     requires room { count ≤ soon.old.spare }
-    requires known { is_context soon.old.contexts c ≡ true }
+    requires known { has_context soon.old.contexts c ≡ true }
     ensures spare { soon.old.spare ≤ soon.new.spare + count }
     ensures contexts { soon.new.contexts ≡ soon.old.contexts }
 {

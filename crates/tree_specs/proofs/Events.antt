@@ -5,6 +5,7 @@ pub mod NoteLaws
 pub mod QueueLaws
 pub mod PendingLaws
 pub mod ContextLaws
+pub mod KnownContexts
 pub mod LiveContexts
 pub mod RotationLaws
 pub mod DescriptorLaws

@@ -4,7 +4,8 @@ use Rattle.pool_arena.proofs.Keeps.{get-with_entry}
 use Rattle.pool_arena.proofs.Steps.{len-new}
 use Rattle.tree_specs.specs.Events.Rotation.{is_watching, is_watched}
 use Rattle.fd_events.specs.declared.change.Change.TheVariants.{Joins}
-use Rattle.fd_events.specs.Rotation.{Rotation, is_context}
+use Rattle.tree_specs.specs.Events.Contexts.{has_context}
+use Rattle.fd_events.specs.Rotation.{Rotation}
 use Rattle.fd_events.specs.Changes.{watches_of, contexts_of}
 use Rattle.fd_events.specs.Linked.{watching}
 use Rattle.fd_events.proofs.Keeping.{none-there, has-fewer, keeps-added, keeps-noted}
@@ -18,7 +19,7 @@ add-requires-2-clause-vacant c =
 pub join-requires : goal.join-requires
 join-requires c =
     has-fewer c.self.inside.lane c.self.inside.holders.pairs _ _ c.self.invariant c.args.c _
-    (ap (λ (r : Rotation). is_context r.contexts c.args.c) c.self.view_is ∙ c.requires.known)
+    (ap (λ (r : Rotation). has_context r.contexts c.args.c) c.self.view_is ∙ c.requires.known)
     (ap (λ m. map.len m) c.add-2.ensures.pairs ∙ len-new c.self.inside.lane.nodes.pairs c.args.x.0 _
     (none-there c.self.inside.lane c.self.inside.holders.pairs _ _ c.self.invariant c.args.x
     (ap (λ (r : Rotation). is_watching r.watches c.args.x) c.self.view_is ∙ c.requires.absent)))
