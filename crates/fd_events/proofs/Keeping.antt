@@ -19,7 +19,7 @@ use Rattle.linked_lanes.specs.Lane.{has, is_at, without}
 use Rattle.linked_lanes.specs.Family.{Family, no_ends}
 use Rattle.linked_lanes.proofs.Lanes.{by_test, not_both, false_by, eqb-self, eqb-sym, length-without, has-without-same}
 use Rattle.linked_lanes.proofs.Families.{found-count, stands, stands_nowhere, grown-family, shrunk-family}
-use Rattle.lane_ends.specs.Lanes.{Lanes, without_lane}
+use Rattle.lane_ends.specs.Lanes.{Ends, Lanes, without_lane}
 use Rattle.fd_events.specs.declared.node.Node.{Node}
 use Rattle.fd_events.specs.declared.lane.Lane.{Lane}
 use Rattle.fd_events.specs.declared.change.Change.{Change}
@@ -54,11 +54,11 @@ module _ (l : Lane) (h : Holders) (ws : List Watch) (cs : List Obj) (k : IsKept 
   pub none-there : (x : Obj) → is_watching ws x ≡ false → map.get l.nodes.pairs x.0 ≡ None
   none-there x absent = none-read (watching x.0) (map.get l.nodes.pairs x.0) (k.held x.0 ∙ none _ absent)
 
-  pub open-lane : (c : Obj) → has_context cs c ≡ true → (e : Extent) × (map.get l.ends c.0 ≡ Some e)
-  open-lane c known = some-from (map.get l.ends c.0) (k.open_ones c.0 ∙ known)
+  pub open-lane : (c : Obj) → has_context cs c ≡ true → (e : Extent) × (map.get l.ends.lanes c.0 ≡ Some e)
+  open-lane c known = some-from (map.get l.ends.lanes c.0) (k.open_ones c.0 ∙ known)
 
   -- in a lane of one more event fewer stand than there are
-  pub has-fewer : (c : Obj) (n : ℕ) → has_context cs c ≡ true → n ≡ map.len l.nodes.pairs + 1 → HasFewer l.ends n c.0
+  pub has-fewer : (c : Obj) (n : ℕ) → has_context cs c ≡ true → n ≡ map.len l.nodes.pairs + 1 → HasFewer l.ends.lanes n c.0
   has-fewer c n known more =
       let o = open-lane c known in
       let s = (k.lane.family.told c.0 o.0 o.1).count in
@@ -76,14 +76,14 @@ module _ (l : Lane) (h : Holders) (ws : List Watch) (cs : List Obj) (k : IsKept 
     pub sides-there : sides_at l.nodes.pairs x.0 ≡ Some v.sides
     sides-there = ap (option_map sides_of) found
 
-    pub has-some : OnContext (HasSome l.ends) v.context
+    pub has-some : OnContext (HasSome l.ends.lanes) v.context
     has-some = go v.context context-there
       where
-        go : (o : Option Obj) → context_in ws x.0 ≡ option_map number_of o → OnContext (HasSome l.ends) o
+        go : (o : Option Obj) → context_in ws x.0 ≡ option_map number_of o → OnContext (HasSome l.ends.lanes) o
         go None e = tt
         go (Some c) e =
-            let p = some-from (map.get l.ends c.0) (k.lane.family.known c.0 x.0 e) in
-            (p.0, p.1, found-count (context_in ws) (sides_at l.nodes.pairs) (map.get l.ends) (lane_in ws) k.lane.family x.0 c.0 v.sides p.0 e sides-there p.1)
+            let p = some-from (map.get l.ends.lanes c.0) (k.lane.family.known c.0 x.0 e) in
+            (p.0, p.1, found-count (context_in ws) (sides_at l.nodes.pairs) (map.get l.ends.lanes) (lane_in ws) k.lane.family x.0 c.0 v.sides p.0 e sides-there p.1)
 
     -- ---- leaving
 
@@ -95,7 +95,7 @@ module _ (l : Lane) (h : Holders) (ws : List Watch) (cs : List Obj) (k : IsKept 
     module _ (l1 : Lane)
         (left : IsLane l1 (placed (context_in ws) x.0 None) (lanes_left (lane_in ws) x.0))
         (same : (q : ℕ) → watch_at l1.nodes.pairs q ≡ watch_at l.nodes.pairs q) (len : map.len l1.nodes.pairs ≡ map.len l.nodes.pairs)
-        (opens : (d : ℕ) → is_some (map.get l1.ends d) ≡ is_some (map.get l.ends d)) where
+        (opens : (d : ℕ) → is_some (map.get l1.ends.lanes d) ≡ is_some (map.get l.ends.lanes d)) where
       left-now : IsLane l1 (context_in (unwatched ws x)) (lane_in (unwatched ws x))
       left-now = lane-is l1 _ (context_in (unwatched ws x)) _ (lane_in (unwatched ws x)) (context-left ws x) (λ d. lane-left ws x d k.once) left
 
@@ -109,15 +109,15 @@ module _ (l : Lane) (h : Holders) (ws : List Watch) (cs : List Obj) (k : IsKept 
       here = same x.0 ∙ ap (option_map (watching x.0)) found
 
       -- in the lane that it left fewer stand than there are
-      pub fewer-left : OnContext (HasFewer l1.ends (map.len l1.nodes.pairs)) v.context
+      pub fewer-left : OnContext (HasFewer l1.ends.lanes (map.len l1.nodes.pairs)) v.context
       fewer-left = go v.context context-there
         where
-          go : (o : Option Obj) → context_in ws x.0 ≡ option_map number_of o → OnContext (HasFewer l1.ends (map.len l1.nodes.pairs)) o
+          go : (o : Option Obj) → context_in ws x.0 ≡ option_map number_of o → OnContext (HasFewer l1.ends.lanes (map.len l1.nodes.pairs)) o
           go None e = tt
           go (Some c) e =
-              let p = some-from (map.get l1.ends c.0) (opens c.0 ∙ k.lane.family.known c.0 x.0 e) in
+              let p = some-from (map.get l1.ends.lanes c.0) (opens c.0 ∙ k.lane.family.known c.0 x.0 e) in
               let s = (left.family.told c.0 p.0 p.1).count in
-              let w = length-without (lane_in ws c.0) x.0 (stands (context_in ws) (sides_at l.nodes.pairs) (map.get l.ends) (lane_in ws) k.lane.family c.0 x.0 e) in
+              let w = length-without (lane_in ws c.0) x.0 (stands (context_in ws) (sides_at l.nodes.pairs) (map.get l.ends.lanes) (lane_in ws) k.lane.family c.0 x.0 e) in
               let m = lane-length ws c.0 in
               let all = k.count in
               (p.0, p.1, omega (arith, s, w, m, all, len))
@@ -146,7 +146,7 @@ module _ (l : Lane) (h : Holders) (ws : List Watch) (cs : List Obj) (k : IsKept 
       module _ (w : Watch) (own : w.object ≡ x) (fd : w.fd ≡ v.fd) (l2 : Lane)
           (joined : IsLane l2 (placed (context_in (unwatched ws x)) x.0 (context_of w)) (lanes_joined (lane_in (unwatched ws x)) x.0 (context_of w)))
           (now : (q : ℕ) → watch_at l2.nodes.pairs q ≡ cond (nat_eq x.0 q) (Some w) (watch_at l1.nodes.pairs q)) (len2 : map.len l2.nodes.pairs ≡ map.len l1.nodes.pairs)
-          (open2 : (d : ℕ) → is_some (map.get l2.ends d) ≡ is_some (map.get l1.ends d)) where
+          (open2 : (d : ℕ) → is_some (map.get l2.ends.lanes d) ≡ is_some (map.get l1.ends.lanes d)) where
         absent : is_watching (unwatched ws x) w.object ≡ false
         absent = ap (is_watching (unwatched ws x)) own ∙ out
 
@@ -179,7 +179,7 @@ module _ (l : Lane) (h : Holders) (ws : List Watch) (cs : List Obj) (k : IsKept 
           (joins : (K : ℕ → Option ℕ) (F : ℕ → List ℕ) → IsLane l1 K F → K x.0 ≡ None → is_there l1 x.0 ≡ true
           → IsLane l2 (placed K x.0 (option_map number_of v.context)) (lanes_joined F x.0 (option_map number_of v.context)))
           (still : (q : ℕ) → watch_at l2.nodes.pairs q ≡ watch_at l1.nodes.pairs q) (len2 : map.len l2.nodes.pairs ≡ map.len l1.nodes.pairs)
-          (open2 : (d : ℕ) → is_some (map.get l2.ends d) ≡ is_some (map.get l1.ends d)) where
+          (open2 : (d : ℕ) → is_some (map.get l2.ends.lanes d) ≡ is_some (map.get l1.ends.lanes d)) where
         pub keeps-turned : IsKept l2 h (turned_back ws x) cs
         keeps-turned =
             subst (λ (us : List Watch). IsKept l2 h us cs) (sym (ap (behind_all (unwatched ws x)) watch-there))
@@ -212,7 +212,7 @@ module _ (l : Lane) (h : Holders) (ws : List Watch) (cs : List Obj) (k : IsKept 
       (joined : (K : ℕ → Option ℕ) (F : ℕ → List ℕ) → IsLane (record l { nodes = n1 }) K F → K x.0 ≡ None → is_there (record l { nodes = n1 }) x.0 ≡ true
       → IsLane l2 (placed K x.0 (option_map number_of v.context)) (lanes_joined F x.0 (option_map number_of v.context)))
       (same : (q : ℕ) → watch_at l2.nodes.pairs q ≡ watch_at n1.pairs q) (len : map.len l2.nodes.pairs ≡ map.len n1.pairs)
-      (opens : (d : ℕ) → is_some (map.get l2.ends d) ≡ is_some (map.get l.ends d))
+      (opens : (d : ℕ) → is_some (map.get l2.ends.lanes d) ≡ is_some (map.get l.ends.lanes d))
       (noted : (q : ℕ) → map.get h' q ≡ cond (nat_eq v.fd q) (Some x.0) (map.get h q)) where
     put : (q : ℕ) → map.get n1.pairs q ≡ cond (nat_eq x.0 q) (Some v) (map.get l.nodes.pairs q)
     put q = ap (λ (m : Nodes). map.get m q) added ∙ get-with_entry l.nodes.pairs x.0 (Some v) q
@@ -262,53 +262,53 @@ module _ (l : Lane) (h : Holders) (ws : List Watch) (cs : List Obj) (k : IsKept 
 
   -- ---- a context that is added, and one that is dropped
 
-  pub keeps-opened : (c : Obj) (ends : Lanes) → map.get l.ends c.0 ≡ None → ends ≡ map.insert l.ends c.0 no_ends → IsKept (record l { ends = ends }) h ws (c ∷ cs)
+  pub keeps-opened : (c : Obj) (ends : Ends) → map.get l.ends.lanes c.0 ≡ None → ends.lanes ≡ map.insert l.ends.lanes c.0 no_ends → IsKept (record l { ends = ends }) h ws (c ∷ cs)
   keeps-opened c ends fresh set =
-      let added : (d : ℕ) → map.get ends d ≡ cond (nat_eq c.0 d) (Some no_ends) (map.get l.ends d) =
-      λ d. ap (λ (n : Lanes). map.get n d) set ∙ get-with_entry l.ends c.0 (Some no_ends) d in record {
+      let added : (d : ℕ) → map.get ends.lanes d ≡ cond (nat_eq c.0 d) (Some no_ends) (map.get l.ends.lanes d) =
+      λ d. ap (λ (n : Lanes). map.get n d) set ∙ get-with_entry l.ends.lanes c.0 (Some no_ends) d in record {
         once = k.once;
         held = k.held;
         count = k.count;
         noted = k.noted;
-        lane = record { family = grown-family _ _ (map.get l.ends) (lane_in ws) k.lane.family c.0 (map.get ends) fresh added; stamps = k.lane.stamps };
-        open_ones = λ d. opened-kept (map.get l.ends) (map.get ends) cs (λ e. k.open_ones e.0) c no_ends added (numbered d);
+        lane = record { family = grown-family _ _ (map.get l.ends.lanes) (lane_in ws) k.lane.family c.0 (map.get ends.lanes) fresh added; stamps = k.lane.stamps };
+        open_ones = λ d. opened-kept (map.get l.ends.lanes) (map.get ends.lanes) cs (λ e. k.open_ones e.0) c no_ends added (numbered d);
       }
 
   module _ (c : Obj) (nothing : ring_in ws c ≡ []) where
-    pub keeps-closed : (ends : Lanes) → ends ≡ without_lane l.ends c.0 → IsKept (record l { ends = ends }) h ws (without_context cs c)
+    pub keeps-closed : (ends : Ends) → ends.lanes ≡ without_lane l.ends.lanes c.0 → IsKept (record l { ends = ends }) h ws (without_context cs c)
     keeps-closed ends set = by_test (nat_eq c.0 0)
-        (λ t. let same_ends : ends ≡ l.ends = rw t at set in record {
+        (λ t. let same_ends : ends.lanes ≡ l.ends.lanes = rw t at set in record {
           once = k.once;
           held = k.held;
           count = k.count;
           noted = k.noted;
           lane = record { family = subst (λ (n : Lanes). Family (context_in ws) (sides_at l.nodes.pairs) (map.get n) (lane_in ws)) (sym same_ends) k.lane.family; stamps = k.lane.stamps };
-          open_ones = λ d. closed-first-kept (map.get l.ends) (map.get ends) cs (λ e. k.open_ones e.0) c t (λ e. ap (λ (n : Lanes). map.get n e) same_ends) (numbered d);
+          open_ones = λ d. closed-first-kept (map.get l.ends.lanes) (map.get ends.lanes) cs (λ e. k.open_ones e.0) c t (λ e. ap (λ (n : Lanes). map.get n e) same_ends) (numbered d);
         })
-        (λ t. let removed : ends ≡ map.remove l.ends c.0 = rw t at set in
-        let dropped : (d : ℕ) → map.get ends d ≡ cond (nat_eq c.0 d) None (map.get l.ends d) =
-        λ d. ap (λ (n : Lanes). map.get n d) removed ∙ get-with_entry l.ends c.0 None d in record {
+        (λ t. let removed : ends.lanes ≡ map.remove l.ends.lanes c.0 = rw t at set in
+        let dropped : (d : ℕ) → map.get ends.lanes d ≡ cond (nat_eq c.0 d) None (map.get l.ends.lanes d) =
+        λ d. ap (λ (n : Lanes). map.get n d) removed ∙ get-with_entry l.ends.lanes c.0 None d in record {
           once = k.once;
           held = k.held;
           count = k.count;
           noted = k.noted;
-          lane = record { family = shrunk-family _ _ (map.get l.ends) (lane_in ws) k.lane.family c.0 (map.get ends) (ap numbers_of nothing) dropped; stamps = k.lane.stamps };
-          open_ones = λ d. closed-kept (map.get l.ends) (map.get ends) cs (λ e. k.open_ones e.0) c t dropped (numbered d);
+          lane = record { family = shrunk-family _ _ (map.get l.ends.lanes) (lane_in ws) k.lane.family c.0 (map.get ends.lanes) (ap numbers_of nothing) dropped; stamps = k.lane.stamps };
+          open_ones = λ d. closed-kept (map.get l.ends.lanes) (map.get ends.lanes) cs (λ e. k.open_ones e.0) c t dropped (numbered d);
         })
 
 -- ---- nothing
 
-pub keeps-new : (l : Lane) (h : Holders) → l.nodes.pairs ≡ map.empty → l.ends ≡ map.insert map.empty 0 no_ends → h ≡ map.empty → IsKept l h [] []
+pub keeps-new : (l : Lane) (h : Holders) → l.nodes.pairs ≡ map.empty → l.ends.lanes ≡ map.insert map.empty 0 no_ends → h ≡ map.empty → IsKept l h [] []
 keeps-new l h nodes ends holders = record {
   once = tt;
   held = λ q. ap (λ (n : Nodes). option_map (watching q) (map.get n q)) nodes ∙ ap (option_map (watching q)) (get-empty nat_cmp q);
   count = ap (λ (m : Nodes). map.len m) nodes ∙ len-empty nat_cmp Node;
   noted = record { once = tt; holder = λ q. ap (λ (m : Holders). option_map numbered (map.get m q)) holders ∙ ap (option_map numbered) (get-empty nat_cmp q) };
-  lane = record { family = grown-family (λ q. None) (sides_at l.nodes.pairs) (λ q. None) (λ c. []) no_lanes 0 (map.get l.ends) refl at; stamps = λ b c. tt };
+  lane = record { family = grown-family (λ q. None) (sides_at l.nodes.pairs) (λ q. None) (λ c. []) no_lanes 0 (map.get l.ends.lanes) refl at; stamps = λ b c. tt };
   open_ones = λ c. ap is_some (at c) ∙ by_test (nat_eq 0 c) (λ t. rw t refl) (λ t. rw t refl);
 }
   where
-    at : (d : ℕ) → map.get l.ends d ≡ cond (nat_eq 0 d) (Some no_ends) None
+    at : (d : ℕ) → map.get l.ends.lanes d ≡ cond (nat_eq 0 d) (Some no_ends) None
     at d = ap (λ (n : Lanes). map.get n d) ends ∙ get-with_entry map.empty 0 (Some no_ends) d ∙ ap (cond (nat_eq 0 d) (Some no_ends)) (get-empty nat_cmp d)
 
     no_lanes : Family (λ q. None) (sides_at l.nodes.pairs) (λ q. None) (λ c. [])

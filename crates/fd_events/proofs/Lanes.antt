@@ -36,7 +36,7 @@ family-is K K' C E F F' k l f =
 
 pub lane-is : (l : Lane) (K K' : ℕ → Option ℕ) (F F' : ℕ → List ℕ) → ((q : ℕ) → K' q ≡ K q) → ((c : ℕ) → F' c ≡ F c) → IsLane l K F → IsLane l K' F'
 lane-is l K K' F F' k e s = record {
-  family = family-is K K' (sides_at l.nodes.pairs) (map.get l.ends) F F' k e s.family;
+  family = family-is K K' (sides_at l.nodes.pairs) (map.get l.ends.lanes) F F' k e s.family;
   stamps = λ b c. subst (FallFrom (stamp_at l.nodes.pairs) l.next_stamp) (sym (e c)) (s.stamps b c);
 }
 
@@ -44,7 +44,7 @@ lane-is l K K' F F' k e s = record {
 pub lane-nodes : (l : Lane) (n : Held Node) (K : ℕ → Option ℕ) (F : ℕ → List ℕ) → ((c q : ℕ) → has (F c) q ≡ true → sides_at n.pairs q ≡ sides_at l.nodes.pairs q)
     → ((c q : ℕ) → has (F c) q ≡ true → stamp_at n.pairs q ≡ stamp_at l.nodes.pairs q) → IsLane l K F → IsLane (record l { nodes = n }) K F
 lane-nodes l n K F sides stamps s = record {
-  family = family-nodes K (sides_at l.nodes.pairs) (sides_at n.pairs) (map.get l.ends) F sides s.family;
+  family = family-nodes K (sides_at l.nodes.pairs) (sides_at n.pairs) (map.get l.ends.lanes) F sides s.family;
   stamps = λ b c. fall-same (stamp_at l.nodes.pairs) (stamp_at n.pairs) l.next_stamp (F c) (stamps c) (s.stamps b c);
 }
 
@@ -52,7 +52,7 @@ lane-nodes l n K F sides stamps s = record {
 pub lane-out : (l : Lane) (K : ℕ → Option ℕ) (F : ℕ → List ℕ) (x : ℕ) → K x ≡ None → IsLane l K F → IsLane l (placed K x None) (lanes_left F x)
 lane-out l K F x out s = lane-is l K (placed K x None) F (lanes_left F x)
     (λ q. by_test (nat_eq x q) (λ t. rw t (sym (ap K (sym (eqb-true x q t)) ∙ out))) (λ t. rw t refl))
-    (λ c. without-absent (F c) x (stands_nowhere K (sides_at l.nodes.pairs) (map.get l.ends) F s.family c x out)) s
+    (λ c. without-absent (F c) x (stands_nowhere K (sides_at l.nodes.pairs) (map.get l.ends.lanes) F s.family c x out)) s
 
 pub lane-nowhere : (l : Lane) (K : ℕ → Option ℕ) (F : ℕ → List ℕ) (x : ℕ) → K x ≡ None → IsLane l K F → IsLane l (placed K x None) (lanes_joined F x None)
 lane-nowhere l K F x out s = lane-is l K (placed K x None) F (lanes_joined F x None)

@@ -29,19 +29,19 @@ module _ (l : Lane) (h : Holders) (ws : List Watch) (cs : List Obj) (k : IsKept 
   ring-once = once-filtered (λ (w : Watch). w.object.0) (λ w. is_same w.context c) ws k.once
 
   -- no ends are known of this context
-  pub ends-none : map.get l.ends c.0 ≡ None → lane_in ws c.0 ≡ []
-  ends-none e = unknown-empty (context_in ws) (sides_at l.nodes.pairs) (map.get l.ends) (lane_in ws) k.lane.family c.0 e
+  pub ends-none : map.get l.ends.lanes c.0 ≡ None → lane_in ws c.0 ≡ []
+  ends-none e = unknown-empty (context_in ws) (sides_at l.nodes.pairs) (map.get l.ends.lanes) (lane_in ws) k.lane.family c.0 e
 
-  pub oldest-none : map.get l.ends c.0 ≡ None → None ≡ option_map object_of (slice_get (ring_in ws c) 0)
+  pub oldest-none : map.get l.ends.lanes c.0 ≡ None → None ≡ option_map object_of (slice_get (ring_in ws c) 0)
   oldest-none e = ap (λ (xs : List ℕ). option_map numbered (last xs)) (sym (ends-none e)) ∙ last-numbers (ring_in ws c)
 
-  pub oldest-some : (e : Extent) → map.get l.ends c.0 ≡ Some e → option_map numbered e.oldest ≡ option_map object_of (slice_get (ring_in ws c) 0)
+  pub oldest-some : (e : Extent) → map.get l.ends.lanes c.0 ≡ Some e → option_map numbered e.oldest ≡ option_map object_of (slice_get (ring_in ws c) 0)
   oldest-some e at = ap (option_map numbered) (k.lane.family.told c.0 e at).at_last ∙ last-numbers (ring_in ws c)
 
-  pub length-none : map.get l.ends c.0 ≡ None → 0 ≡ length (ring_in ws c)
+  pub length-none : map.get l.ends.lanes c.0 ≡ None → 0 ≡ length (ring_in ws c)
   length-none e = ap (λ (xs : List ℕ). length xs) (sym (ends-none e)) ∙ numbers-length (ring_in ws c)
 
-  pub length-some : (e : Extent) → map.get l.ends c.0 ≡ Some e → e.count ≡ length (ring_in ws c)
+  pub length-some : (e : Extent) → map.get l.ends.lanes c.0 ≡ Some e → e.count ≡ length (ring_in ws c)
   length-some e at = (k.lane.family.told c.0 e at).count ∙ numbers-length (ring_in ws c)
 
   module _ (x : Obj) where
@@ -70,8 +70,8 @@ module _ (l : Lane) (h : Holders) (ws : List Watch) (cs : List Obj) (k : IsKept 
       pub place-some : is_same v.context c ≡ true → from_on (ring_in ws c) (Some x) ≡ watching x.0 v ∷ from_on (ring_in ws c) (option_map numbered v.sides.newer)
       place-some t =
           let within : context_in ws x.0 ≡ Some c.0 = context-there l h ws cs k x v found ∙ in-context v.context c t in
-          let p = some-from (map.get l.ends c.0) (k.lane.family.known c.0 x.0 within) in
-          let s = found-sides (context_in ws) (sides_at l.nodes.pairs) (map.get l.ends) (lane_in ws) k.lane.family x.0 c.0 v.sides p.0 within (sides-there l h ws cs k x v found) p.1 in
+          let p = some-from (map.get l.ends.lanes c.0) (k.lane.family.known c.0 x.0 within) in
+          let s = found-sides (context_in ws) (sides_at l.nodes.pairs) (map.get l.ends.lanes) (lane_in ws) k.lane.family x.0 c.0 v.sides p.0 within (sides-there l h ws cs k x v found) p.1 in
           from-one (watch_in (ring_in ws c)) tells (numbers_of (ring_in ws c)) (ring_in ws c) (listed-numbers (ring_in ws c) ring-once) there x.0 (watching x.0 v)
           (k.lane.family.distinct c.0) (kept ∙ rw t refl)
           ∙ ap (λ (s : Sides). watching x.0 v ∷ from_on (ring_in ws c) (option_map numbered s.newer)) (sym s)

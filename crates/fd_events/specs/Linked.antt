@@ -102,7 +102,7 @@ FallFrom S n (x ∷ xs) = (s : ℕ) × (S x ≡ Some s) × (s < n) × FallFrom S
 
 -- the neighbours, the ends and the stamps keep these lanes, where K gives the number of the lane in which each event stands
 pub record IsLane (l : Lane) (K : ℕ → Option ℕ) (lane : ℕ → List ℕ) : Type 0 where
-  pub family : Family K (sides_at l.nodes.pairs) (map.get l.ends) lane
+  pub family : Family K (sides_at l.nodes.pairs) (map.get l.ends.lanes) lane
   pub stamps : HasStampsLeft l → (c : ℕ) → FallFrom (stamp_at l.nodes.pairs) l.next_stamp (lane c)
 
 -- one more stands in a lane, or in none
@@ -142,7 +142,7 @@ pub record IsKept (l : Lane) (holders : map.FinMap nat_cmp ℕ) (ws : List Watch
   pub count : map.len l.nodes.pairs ≡ length ws
   pub noted : AreHolders (map.get holders) ws
   pub lane : IsLane l (context_in ws) (lane_in ws)
-  pub open_ones : (c : ℕ) → is_some (map.get l.ends c) ≡ has_context cs (numbered c)
+  pub open_ones : (c : ℕ) → is_some (map.get l.ends.lanes c) ≡ has_context cs (numbered c)
 
 -- ---- a walk over the rotation
 

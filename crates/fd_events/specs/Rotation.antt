@@ -14,6 +14,8 @@ pub record Rotation : Type 0 where
   pub contexts : List Obj
   -- so many can be added without taking memory
   pub spare : ℕ
+  -- so many contexts
+  pub contexts_spare : ℕ
 
 -- no two have the same of this
 abbrev pub AreOnceBy : (Watch → ℕ) → List Watch → Type 0

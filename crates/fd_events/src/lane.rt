@@ -35,12 +35,13 @@ impl Lane {
 
     /// Takes one with these neighbours out of its place in a context.
     fn leave_lane(&mut self, c: Obj, sides: Sides)
-        requires { HasSome self.old.ends c.0 }
+        requires { HasSome self.old.ends.lanes c.0 }
         ensures lane { (K : ℕ → Option ℕ) (F : ℕ → List ℕ) (x : ℕ) → IsLane self.old K F → K x ≡ Some c.0 → sides_at self.old.nodes.pairs x ≡ Some sides → IsLane self.new (placed K x None) (lanes_left F x) }
         ensures watches { (q : ℕ) → watch_at self.new.nodes.pairs q ≡ watch_at self.old.nodes.pairs q }
         ensures len { map.len self.new.nodes.pairs ≡ map.len self.old.nodes.pairs }
         ensures spare { self.new.nodes.spare ≡ self.old.nodes.spare }
-        ensures open_ones { (d : ℕ) → is_some (map.get self.new.ends d) ≡ is_some (map.get self.old.ends d) }
+        ensures ends_spare { self.new.ends.spare ≡ self.old.ends.spare }
+        ensures open_ones { (d : ℕ) → is_some (map.get self.new.ends.lanes d) ≡ is_some (map.get self.old.ends.lanes d) }
     {
         let ends = self.ends.get(c.0).unwrap();
         self.ends.set(c.0, ends.left(sides));
@@ -50,12 +51,13 @@ impl Lane {
 
     /// Takes one that is noted so out of its place, where it has one. What is noted under its number stays.
     pub(crate) fn leave(&mut self, node: Node)
-        requires { OnContext (HasSome self.old.ends) node.context }
+        requires { OnContext (HasSome self.old.ends.lanes) node.context }
         ensures lane { (K : ℕ → Option ℕ) (F : ℕ → List ℕ) (x : ℕ) → IsLane self.old K F → K x ≡ option_map number_of node.context → sides_at self.old.nodes.pairs x ≡ Some node.sides → IsLane self.new (placed K x None) (lanes_left F x) }
         ensures watches { (q : ℕ) → watch_at self.new.nodes.pairs q ≡ watch_at self.old.nodes.pairs q }
         ensures len { map.len self.new.nodes.pairs ≡ map.len self.old.nodes.pairs }
         ensures spare { self.new.nodes.spare ≡ self.old.nodes.spare }
-        ensures open_ones { (d : ℕ) → is_some (map.get self.new.ends d) ≡ is_some (map.get self.old.ends d) }
+        ensures ends_spare { self.new.ends.spare ≡ self.old.ends.spare }
+        ensures open_ones { (d : ℕ) → is_some (map.get self.new.ends.lanes d) ≡ is_some (map.get self.old.ends.lanes d) }
     {
         match node.context {
             None => {}
@@ -65,12 +67,13 @@ impl Lane {
 
     /// Puts one that is noted under its number, and has no place, behind all others of a context.
     fn join_lane(&mut self, x: u64, c: Obj)
-        requires { HasFewer self.old.ends (map.len self.old.nodes.pairs) c.0 }
+        requires { HasFewer self.old.ends.lanes (map.len self.old.nodes.pairs) c.0 }
         ensures lane { (K : ℕ → Option ℕ) (F : ℕ → List ℕ) → IsLane self.old K F → K x ≡ None → is_there self.old x ≡ true → IsLane self.new (placed K x (Some c.0)) (lanes_joined F x (Some c.0)) }
         ensures watches { (q : ℕ) → watch_at self.new.nodes.pairs q ≡ watch_at self.old.nodes.pairs q }
         ensures len { map.len self.new.nodes.pairs ≡ map.len self.old.nodes.pairs }
         ensures spare { self.new.nodes.spare ≡ self.old.nodes.spare }
-        ensures open_ones { (d : ℕ) → is_some (map.get self.new.ends d) ≡ is_some (map.get self.old.ends d) }
+        ensures ends_spare { self.new.ends.spare ≡ self.old.ends.spare }
+        ensures open_ones { (d : ℕ) → is_some (map.get self.new.ends.lanes d) ≡ is_some (map.get self.old.ends.lanes d) }
     {
         let ends = self.ends.get(c.0).unwrap();
         prove!(ends.count < self.nodes.len());
@@ -87,12 +90,13 @@ impl Lane {
 
     /// Puts one that is noted under its number, and has no place, behind all others of its context, if it has one.
     pub(crate) fn join(&mut self, x: u64, context: Option<Obj>)
-        requires { OnContext (HasFewer self.old.ends (map.len self.old.nodes.pairs)) context }
+        requires { OnContext (HasFewer self.old.ends.lanes (map.len self.old.nodes.pairs)) context }
         ensures lane { (K : ℕ → Option ℕ) (F : ℕ → List ℕ) → IsLane self.old K F → K x ≡ None → is_there self.old x ≡ true → IsLane self.new (placed K x (option_map number_of context)) (lanes_joined F x (option_map number_of context)) }
         ensures watches { (q : ℕ) → watch_at self.new.nodes.pairs q ≡ watch_at self.old.nodes.pairs q }
         ensures len { map.len self.new.nodes.pairs ≡ map.len self.old.nodes.pairs }
         ensures spare { self.new.nodes.spare ≡ self.old.nodes.spare }
-        ensures open_ones { (d : ℕ) → is_some (map.get self.new.ends d) ≡ is_some (map.get self.old.ends d) }
+        ensures ends_spare { self.new.ends.spare ≡ self.old.ends.spare }
+        ensures open_ones { (d : ℕ) → is_some (map.get self.new.ends.lanes d) ≡ is_some (map.get self.old.ends.lanes d) }
     {
         match context {
             None => {}

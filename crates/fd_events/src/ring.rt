@@ -28,9 +28,9 @@ mod picking;
 
 /// The events on descriptors (`tevent_add_fd`), in the order in which the loop of each context looks at them: one that
 /// has come goes to the end. Contracts see the list of how each watches; the contexts that were added beside the first
-/// one, which always is there and has the number 0; and spare: so many can be added without taking memory. Each call but
-/// `first_ready`, `wants` and `drop_context` takes the same time however many there are. Only `reserve`, `add_context`
-/// and `wants` take memory.
+/// one, which always is there and has the number 0; and for how many more events and contexts there is memory (`spare`,
+/// `contexts_spare`). Each call but `first_ready`, `wants`, `clear` and `drop_context` takes the same time however many
+/// there are. Only `reserve`, `reserve_context` and `wants` take memory.
 #[derive(Drop)]
 pub struct Ring {
     /// The events, in their order.
@@ -51,7 +51,7 @@ impl Model for Ring {
     ghost use Rattle.fd_events.specs.Changes.{watches_of, contexts_of};
     ghost use Rattle.fd_events.specs.Linked.{IsKept};
 
-    ghost view = { λ r. record { watches = watches_of r.changes.items; contexts = contexts_of r.changes.items; spare = min r.lane.nodes.spare r.holders.spare } };
+    ghost view = { λ r. record { watches = watches_of r.changes.items; contexts = contexts_of r.changes.items; spare = min r.lane.nodes.spare r.holders.spare; contexts_spare = r.lane.ends.spare } };
 
     ghost invariant = { λ r. IsKept r.lane r.holders.pairs (watches_of r.changes.items) (contexts_of r.changes.items) };
 }
@@ -113,26 +113,35 @@ impl Ring {
         ensures contexts { self.new.contexts ≡ self.old.contexts }
         ensures spare { OnOk result (more ≤ self.new.spare) }
         ensures kept { self.old.spare ≤ self.new.spare }
+        ensures contexts_spare { self.new.contexts_spare ≡ self.old.contexts_spare }
     {
         self.lane.nodes.reserve(more)?;
         self.holders.reserve(more)?;
         Ok(())
     }
 
-    /// Adds a context, in which nothing is watched, and takes memory for it. One that is there stays as it is. If memory
-    /// runs out, the contexts are as they were.
-    pub fn add_context(&mut self, c: Obj) -> Result<(), Memory>
+    /// Takes memory for one more context. If memory runs out, all is as it was.
+    pub fn reserve_context(&mut self) -> Result<(), Memory>
         ensures watches { self.new.watches ≡ self.old.watches }
-        ensures added { OnOk result (self.new.contexts ≡ with_context self.old.contexts c) }
-        ensures kept { OnErr result (self.new.contexts ≡ self.old.contexts) }
+        ensures contexts { self.new.contexts ≡ self.old.contexts }
+        ensures spare { self.new.spare ≡ self.old.spare }
+        ensures contexts_spare { OnOk result (0 < self.new.contexts_spare) }
+        ensures kept { self.old.contexts_spare ≤ self.new.contexts_spare }
+    {
+        Ok(self.lane.ends.reserve(1)?)
+    }
+
+    /// Adds a context, in which nothing is watched. One that is there stays as it is.
+    pub fn add_context(&mut self, c: Obj)
+        requires { 0 < self.old.contexts_spare }
+        ensures watches { self.new.watches ≡ self.old.watches }
+        ensures contexts { self.new.contexts ≡ with_context self.old.contexts c }
         ensures spare { self.new.spare ≡ self.old.spare }
     {
-        if self.lane.ends.get(c.0).is_some() {
-            return Ok(());
+        if self.lane.ends.get(c.0).is_none() {
+            self.lane.ends.add_lane(c.0);
+            self.changes = self.changes.and(&Change::Opens(c), &());
         }
-        self.lane.ends.add_lane(c.0)?;
-        self.changes = self.changes.and(&Change::Opens(c), &());
-        Ok(())
     }
 
     /// Adds an event that watches a descriptor in a context (`tevent_add_fd`), behind all others. What it watches for is
@@ -146,6 +155,7 @@ impl Ring {
         ensures watches { self.new.watches ≡ watched self.old.watches x fd flags c }
         ensures contexts { self.new.contexts ≡ self.old.contexts }
         ensures spare { self.old.spare ≤ self.new.spare + 1 }
+        ensures contexts_spare { self.old.contexts_spare ≤ self.new.contexts_spare }
     {
         let sides = Sides {
             newer: None,
@@ -172,6 +182,7 @@ impl Ring {
         ensures watches { self.new.watches ≡ unwatched self.old.watches x }
         ensures contexts { self.new.contexts ≡ self.old.contexts }
         ensures spare { self.old.spare ≤ self.new.spare }
+        ensures contexts_spare { self.old.contexts_spare ≤ self.new.contexts_spare }
     {
         let node = self.lane.node(x.0)?;
         self.lane.leave(node);
@@ -187,6 +198,7 @@ impl Ring {
         ensures watches { self.new.watches ≡ rewatched (flagged flags) self.old.watches x }
         ensures contexts { self.new.contexts ≡ self.old.contexts }
         ensures spare { self.old.spare ≤ self.new.spare }
+        ensures contexts_spare { self.old.contexts_spare ≤ self.new.contexts_spare }
     {
         set_flags(&mut self.lane.nodes, x.0, flags);
         self.changes = self.changes.and(&Change::SetsFlags(x, flags), &());
@@ -198,6 +210,7 @@ impl Ring {
         ensures watches { self.new.watches ≡ rewatched closing self.old.watches x }
         ensures contexts { self.new.contexts ≡ self.old.contexts }
         ensures spare { self.old.spare ≤ self.new.spare }
+        ensures contexts_spare { self.old.contexts_spare ≤ self.new.contexts_spare }
     {
         set_closing(&mut self.lane.nodes, x.0);
         self.changes = self.changes.and(&Change::SetsClosing(x), &());
@@ -231,6 +244,7 @@ impl Ring {
         ensures watches { self.new.watches ≡ turned_back self.old.watches x }
         ensures contexts { self.new.contexts ≡ self.old.contexts }
         ensures spare { self.old.spare ≤ self.new.spare }
+        ensures contexts_spare { self.old.contexts_spare ≤ self.new.contexts_spare }
     {
         if let Some(node) = self.lane.node(x.0) {
             self.lane.leave(node);
@@ -244,6 +258,7 @@ impl Ring {
         ensures watches { self.new.watches ≡ lost_one self.old.watches x }
         ensures contexts { self.new.contexts ≡ self.old.contexts }
         ensures spare { self.old.spare ≤ self.new.spare }
+        ensures contexts_spare { self.old.contexts_spare ≤ self.new.contexts_spare }
     {
         if let Some(node) = self.lane.node(x.0) {
             self.lane.leave(node);
@@ -252,12 +267,13 @@ impl Ring {
         }
     }
 
-    /// Loses all events of a context.
-    fn clear(&mut self, c: Obj)
+    /// Loses all events of a context, which stays. It takes the time of its events.
+    pub fn clear(&mut self, c: Obj)
         ensures watches { self.new.watches ≡ ring_without self.old.watches c }
         ensures none { ring_in self.new.watches c ≡ [] }
         ensures contexts { self.new.contexts ≡ self.old.contexts }
         ensures spare { self.old.spare ≤ self.new.spare }
+        ensures contexts_spare { self.old.contexts_spare ≤ self.new.contexts_spare }
     {
         while let Some(x) = self.oldest(c) {
             self.lose(x);
@@ -270,6 +286,7 @@ impl Ring {
         ensures watches { self.new.watches ≡ self.old.watches }
         ensures contexts { self.new.contexts ≡ without_context self.old.contexts c }
         ensures spare { self.new.spare ≡ self.old.spare }
+        ensures contexts_spare { self.old.contexts_spare ≤ self.new.contexts_spare }
     {
         self.lane.ends.drop_lane(c.0);
         self.changes = self.changes.and(&Change::Closes(c), &());
@@ -281,6 +298,7 @@ impl Ring {
         ensures watches { self.new.watches ≡ ring_without self.old.watches c }
         ensures contexts { self.new.contexts ≡ without_context self.old.contexts c }
         ensures spare { self.old.spare ≤ self.new.spare }
+        ensures contexts_spare { self.old.contexts_spare ≤ self.new.contexts_spare }
     {
         self.clear(c);
         self.close(c);

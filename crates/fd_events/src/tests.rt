@@ -310,7 +310,8 @@ fn first_of_four(alloc: Global, ring: &Ring, c: Obj) -> Result<u64, Fail> {
 #[test]
 fn each_context_has_its_rotation(rt: HostRuntime) -> Result<(), Fail> {
     let mut ring = with_room(rt.alloc(), 4)?;
-    ring.add_context(Obj(9))?;
+    ring.reserve_context()?;
+    ring.add_context(Obj(9));
     let first = add_in(&mut ring, 11, 1, FIRST);
     let second = add_in(&mut ring, 12, 2, Obj(9));
     let third = add_in(&mut ring, 13, 3, FIRST);
@@ -328,7 +329,8 @@ fn each_context_has_its_rotation(rt: HostRuntime) -> Result<(), Fail> {
 #[test]
 fn the_events_of_a_dropped_context_are_lost(rt: HostRuntime) -> Result<(), Fail> {
     let mut ring = with_room(rt.alloc(), 4)?;
-    ring.add_context(Obj(9))?;
+    ring.reserve_context()?;
+    ring.add_context(Obj(9));
     add_in(&mut ring, 12, 2, Obj(9));
     add_in(&mut ring, 11, 1, FIRST);
     add_in(&mut ring, 14, 4, Obj(9));

@@ -13,6 +13,8 @@ pub record Waiting : Type 0 where
   pub contexts : List Obj
   -- so many can be added without taking memory
   pub spare : ℕ
+  -- so many contexts
+  pub contexts_spare : ℕ
 
 -- each object waits once
 abbrev pub AreOnce : List Coming → Type 0

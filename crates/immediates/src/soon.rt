@@ -15,9 +15,9 @@ use tree_specs::{Coming, Memory, Obj};
 
 /// The objects that come soon, first in first out in each context: immediates that are scheduled, requests whose callback
 /// is posted, and queues that are to look at their first entry. Contracts see the list of them with their contexts, each
-/// object once; the contexts that were added beside the first one, which always is there and has the number 0; and spare:
-/// so many can be added without taking memory. Only `reserve` and `add_context` take memory. Each call but `drop_context`
-/// takes the same time however many wait.
+/// object once; the contexts that were added beside the first one, which always is there and has the number 0; and for how
+/// many more objects and contexts there is memory (`spare`, `contexts_spare`). Only `reserve` and `reserve_context` take
+/// memory. Each call but `clear` and `drop_context` takes the same time however many wait.
 #[derive(Drop)]
 pub struct Soon {
     /// The place of each, under its number.
@@ -37,9 +37,9 @@ impl Model for Soon {
     ghost use Rattle.immediates.specs.Changes.{coming_of, contexts_of};
     ghost use Rattle.immediates.specs.Linked.{IsKept};
 
-    ghost view = { λ s. record { coming = coming_of s.changes.items; contexts = contexts_of s.changes.items; spare = s.nodes.spare } };
+    ghost view = { λ s. record { coming = coming_of s.changes.items; contexts = contexts_of s.changes.items; spare = s.nodes.spare; contexts_spare = s.ends.spare } };
 
-    ghost invariant = { λ s. IsKept s.nodes.pairs s.ends (coming_of s.changes.items) (contexts_of s.changes.items) };
+    ghost invariant = { λ s. IsKept s.nodes.pairs s.ends.lanes (coming_of s.changes.items) (contexts_of s.changes.items) };
 }
 
 /// The object of this number, where there is one.
@@ -76,24 +76,33 @@ impl Soon {
         ensures contexts { self.new.contexts ≡ self.old.contexts }
         ensures spare { OnOk result (more ≤ self.new.spare) }
         ensures kept { self.old.spare ≤ self.new.spare }
+        ensures contexts_spare { self.new.contexts_spare ≡ self.old.contexts_spare }
     {
         Ok(self.nodes.reserve(more)?)
     }
 
-    /// Adds a context, in which none waits, and takes memory for it. One that is there stays as it is. If memory runs out,
-    /// the contexts are as they were.
-    pub fn add_context(&mut self, c: Obj) -> Result<(), Memory>
+    /// Takes memory for one more context. If memory runs out, all is as it was.
+    pub fn reserve_context(&mut self) -> Result<(), Memory>
         ensures coming { self.new.coming ≡ self.old.coming }
-        ensures added { OnOk result (self.new.contexts ≡ with_context self.old.contexts c) }
-        ensures kept { OnErr result (self.new.contexts ≡ self.old.contexts) }
+        ensures contexts { self.new.contexts ≡ self.old.contexts }
+        ensures spare { self.new.spare ≡ self.old.spare }
+        ensures contexts_spare { OnOk result (0 < self.new.contexts_spare) }
+        ensures kept { self.old.contexts_spare ≤ self.new.contexts_spare }
+    {
+        Ok(self.ends.reserve(1)?)
+    }
+
+    /// Adds a context, in which none waits. One that is there stays as it is.
+    pub fn add_context(&mut self, c: Obj)
+        requires { 0 < self.old.contexts_spare }
+        ensures coming { self.new.coming ≡ self.old.coming }
+        ensures contexts { self.new.contexts ≡ with_context self.old.contexts c }
         ensures spare { self.new.spare ≡ self.old.spare }
     {
-        if self.ends.get(c.0).is_some() {
-            return Ok(());
+        if self.ends.get(c.0).is_none() {
+            self.ends.add_lane(c.0);
+            self.changes = self.changes.and(&Change::Opens(c), &());
         }
-        self.ends.add_lane(c.0)?;
-        self.changes = self.changes.and(&Change::Opens(c), &());
-        Ok(())
     }
 
     /// Puts one that doesn't wait behind all others of a context.
@@ -104,6 +113,7 @@ impl Soon {
         ensures coming { self.new.coming ≡ self.old.coming ++ record { object = x; context = c } ∷ [] }
         ensures contexts { self.new.contexts ≡ self.old.contexts }
         ensures spare { self.old.spare ≤ self.new.spare + 1 }
+        ensures contexts_spare { self.old.contexts_spare ≤ self.new.contexts_spare }
     {
         let ends = self.ends.get(c.0).unwrap();
         set_link(&mut self.nodes, ends.newest, Link::Newer(Some(x.0)));
@@ -137,6 +147,7 @@ impl Soon {
         ensures coming { self.new.coming ≡ scheduled self.old.coming x c }
         ensures contexts { self.new.contexts ≡ self.old.contexts }
         ensures spare { self.old.spare ≤ self.new.spare + 1 }
+        ensures contexts_spare { self.old.contexts_spare ≤ self.new.contexts_spare }
     {
         self.remove(x);
         self.join(x, c);
@@ -148,6 +159,7 @@ impl Soon {
         ensures coming { self.new.coming ≡ unscheduled self.old.coming x }
         ensures contexts { self.new.contexts ≡ self.old.contexts }
         ensures spare { self.old.spare ≤ self.new.spare }
+        ensures contexts_spare { self.old.contexts_spare ≤ self.new.contexts_spare }
     {
         let Some(node) = self.nodes.take(x.0) else {
             return false;
@@ -180,6 +192,7 @@ impl Soon {
         ensures elsewhere { soon_without self.new.coming c ≡ soon_without self.old.coming c }
         ensures contexts { self.new.contexts ≡ self.old.contexts }
         ensures spare { self.old.spare ≤ self.new.spare }
+        ensures contexts_spare { self.old.contexts_spare ≤ self.new.contexts_spare }
     {
         let next = self.next(c);
         if let Some(x) = next {
@@ -188,12 +201,13 @@ impl Soon {
         next
     }
 
-    /// Takes out all that wait in a context.
-    fn clear(&mut self, c: Obj)
+    /// Takes out all that wait in a context, which stays. It takes the time of those that wait there.
+    pub fn clear(&mut self, c: Obj)
         ensures coming { self.new.coming ≡ soon_without self.old.coming c }
         ensures none { soon_in self.new.coming c ≡ [] }
         ensures contexts { self.new.contexts ≡ self.old.contexts }
         ensures spare { self.old.spare ≤ self.new.spare }
+        ensures contexts_spare { self.old.contexts_spare ≤ self.new.contexts_spare }
     {
         while !self.is_empty(c) {
             self.pop(c);
@@ -206,6 +220,7 @@ impl Soon {
         ensures coming { self.new.coming ≡ self.old.coming }
         ensures contexts { self.new.contexts ≡ without_context self.old.contexts c }
         ensures spare { self.new.spare ≡ self.old.spare }
+        ensures contexts_spare { self.old.contexts_spare ≤ self.new.contexts_spare }
     {
         self.ends.drop_lane(c.0);
         self.changes = self.changes.and(&Change::Closes(c), &());
@@ -216,6 +231,7 @@ impl Soon {
         ensures coming { self.new.coming ≡ soon_without self.old.coming c }
         ensures contexts { self.new.contexts ≡ without_context self.old.contexts c }
         ensures spare { self.old.spare ≤ self.new.spare }
+        ensures contexts_spare { self.old.contexts_spare ≤ self.new.contexts_spare }
     {
         self.clear(c);
         self.close(c);

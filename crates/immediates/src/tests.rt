@@ -30,7 +30,8 @@ fn the_first_in_is_the_first_out(rt: HostRuntime) -> Result<(), Fail> {
 fn each_context_has_its_own_order(rt: HostRuntime) -> Result<(), Fail> {
     let mut soon = Soon::new(rt.alloc());
     soon.reserve(4)?;
-    soon.add_context(Obj(5))?;
+    soon.reserve_context()?;
+    soon.add_context(Obj(5));
     soon.push(Obj(7), Obj(5));
     soon.push(Obj(3), FIRST);
     soon.push(Obj(9), Obj(5));
@@ -48,7 +49,8 @@ fn each_context_has_its_own_order(rt: HostRuntime) -> Result<(), Fail> {
 fn a_dropped_context_takes_its_own_with_it(rt: HostRuntime) -> Result<(), Fail> {
     let mut soon = Soon::new(rt.alloc());
     soon.reserve(3)?;
-    soon.add_context(Obj(5))?;
+    soon.reserve_context()?;
+    soon.add_context(Obj(5));
     soon.push(Obj(7), Obj(5));
     soon.push(Obj(3), FIRST);
     soon.push(Obj(9), Obj(5));
@@ -84,7 +86,8 @@ fn push_upwards(soon: &mut Soon, count: u64, c: Obj)
 #[test]
 fn many_come_in_the_order_of_their_last_push(rt: HostRuntime) -> Result<(), Fail> {
     let mut soon = Soon::new(rt.alloc());
-    soon.add_context(Obj(5))?;
+    soon.reserve_context()?;
+    soon.add_context(Obj(5));
     soon.reserve(200_000)?;
     push_upwards(&mut soon, 100_000, FIRST);
     push_upwards(&mut soon, 100_000, Obj(5));

@@ -17,6 +17,16 @@ extent_code =
 abbrev pub lanes_code : Coded Lanes
 lanes_code = map.code coded_ℕ extent_code
 
+-- the lanes with their ends, and for how many more there is memory
+pub record Ends : Type 0 where
+  pub lanes : Lanes
+  pub spare : ℕ
+
+abbrev pub ends_code : Coded Ends
+ends_code =
+    code_by (Lanes × ℕ) (coded× lanes_code coded_ℕ)
+    (λ e. (e.lanes, e.spare)) (λ p. record { lanes = p.0; spare = p.1 }) (λ _. refl)
+
 -- all lanes, where the first stands beside the others
 abbrev pub lanes_of : Extent → Lanes → Lanes
 lanes_of first others = map.insert others 0 first

@@ -3,7 +3,7 @@
 //! lanes are kept elsewhere.
 #![tactic(auto)]
 
-ghost use Rattle.std.specs.Prelude.{◌≡◌, None, IsSome, OnOk, OnErr};
+ghost use Rattle.std.specs.Prelude.{◌≡◌, ◌+◌, ◌<◌, ◌≤◌, None, IsSome, OnOk};
 ghost use Rattle.std.specs.FinMap as map;
 ghost use Rattle.linked_lanes.specs.Family.{no_ends};
 
@@ -15,7 +15,8 @@ use std::marker::Model;
 #[cfg(test)]
 mod tests;
 
-/// The ends of lanes. Contracts see a finite map from the numbers of the lanes. Only `add_lane` takes memory.
+/// The ends of lanes. Contracts see a finite map from the numbers of the lanes, and spare: so many lanes can be added without
+/// taking memory. Only `reserve` takes memory.
 #[derive(Drop)]
 pub struct LaneEnds {
     /// Those of lane 0.
@@ -25,19 +26,20 @@ pub struct LaneEnds {
 }
 
 impl Model for LaneEnds {
-    ghost use Rattle.lane_ends.specs.Lanes.{Lanes, lanes_code, lanes_of};
+    ghost use Rattle.lane_ends.specs.Lanes.{Ends, ends_code, lanes_of};
 
-    ghost Value = { Lanes };
+    ghost Value = { Ends };
 
-    ghost coded = { lanes_code };
+    ghost coded = { ends_code };
 
-    ghost view = { λ s. lanes_of s.first s.others.pairs };
+    ghost view = { λ s. record { lanes = lanes_of s.first s.others.pairs; spare = s.others.spare } };
 }
 
 /// Sets the ends of a lane that stands in the arena.
 fn set_at(others: &mut Arena<Extent>, lane: u64, ends: Extent)
     requires { IsSome (map.get others.old.pairs lane) }
-    ensures { others.new.pairs ≡ map.insert others.old.pairs lane ends }
+    ensures pairs { others.new.pairs ≡ map.insert others.old.pairs lane ends }
+    ensures spare { others.new.spare ≡ others.old.spare }
 {
     if let Some(place) = others.get_mut(lane) {
         *place = ends;
@@ -49,7 +51,7 @@ impl LaneEnds {
 
     /// Lane 0 alone, in which none stands.
     pub fn new(alloc: Global) -> LaneEnds
-        ensures { result ≡ map.insert map.empty 0 no_ends }
+        ensures { result.lanes ≡ map.insert map.empty 0 no_ends }
     {
         LaneEnds {
             first: Extent::new(),
@@ -59,7 +61,7 @@ impl LaneEnds {
 
     /// The ends of a lane. None exactly where there is no such lane.
     pub fn get(&self, lane: u64) -> Option<Extent>
-        ensures { result ≡ map.get self.now lane }
+        ensures { result ≡ map.get self.now.lanes lane }
     {
         if lane == 0 {
             return Some(self.first);
@@ -69,8 +71,9 @@ impl LaneEnds {
 
     /// Sets the ends of a lane.
     pub fn set(&mut self, lane: u64, ends: Extent)
-        requires { IsSome (map.get self.old lane) }
-        ensures { self.new ≡ map.insert self.old lane ends }
+        requires { IsSome (map.get self.old.lanes lane) }
+        ensures lanes { self.new.lanes ≡ map.insert self.old.lanes lane ends }
+        ensures spare { self.new.spare ≡ self.old.spare }
     {
         if lane == 0 {
             self.first = ends;
@@ -79,20 +82,29 @@ impl LaneEnds {
         }
     }
 
-    /// Adds a lane, in which none stands. If memory runs out, the lanes are as they were.
-    pub fn add_lane(&mut self, lane: u64) -> Result<(), AllocError>
-        requires { map.get self.old lane ≡ None }
-        ensures added { OnOk result (self.new ≡ map.insert self.old lane no_ends) }
-        ensures kept { OnErr result (self.new ≡ self.old) }
+    /// Takes memory for so many more lanes. If memory runs out, they are as they were.
+    pub fn reserve(&mut self, more: usize) -> Result<(), AllocError>
+        ensures lanes { self.new.lanes ≡ self.old.lanes }
+        ensures spare { OnOk result (more ≤ self.new.spare) }
+        ensures kept { self.old.spare ≤ self.new.spare }
     {
-        self.others.reserve(1)?;
+        self.others.reserve(more)
+    }
+
+    /// Adds a lane, in which none stands.
+    pub fn add_lane(&mut self, lane: u64)
+        requires room { 0 < self.old.spare }
+        requires vacant { map.get self.old.lanes lane ≡ None }
+        ensures lanes { self.new.lanes ≡ map.insert self.old.lanes lane no_ends }
+        ensures spare { self.old.spare ≤ self.new.spare + 1 }
+    {
         self.others.add(lane, Extent::new());
-        Ok(())
     }
 
     /// Drops a lane. Lane 0 stays as it is, and so do the lanes where there is none under the number.
     pub fn drop_lane(&mut self, lane: u64)
-        ensures { self.new ≡ without_lane self.old lane }
+        ensures lanes { self.new.lanes ≡ without_lane self.old.lanes lane }
+        ensures spare { self.old.spare ≤ self.new.spare }
     {
         self.others.take(lane);
     }

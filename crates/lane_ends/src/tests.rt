@@ -16,7 +16,8 @@ fn lane_0_needs_no_memory(rt: HostRuntime) -> Result<(), Fail> {
 #[test]
 fn each_lane_has_its_ends(rt: HostRuntime) -> Result<(), Fail> {
     let mut lanes = LaneEnds::new(rt.alloc());
-    lanes.add_lane(5)?;
+    lanes.reserve(1)?;
+    lanes.add_lane(5);
     let ends = lanes.get(5).unwrap();
     lanes.set(5, ends.joined(9));
     assert_eq!(rt; lanes.get(5).unwrap().oldest, Some(9));

@@ -135,6 +135,15 @@ stilled x u = record u {
 abbrev pub out_of_queue : List Row → Obj → Upcoming → Upcoming
 out_of_queue rs x u = record u { soon = looked_after rs (without_entry u.queues x) (entry_of u.queues x) u.soon; queues = without_entry u.queues x }
 
+-- a queue comes soon in its context, and no more where this isn't usable
+abbrev pub with_coming : List Row → Option Coming → Upcoming → Upcoming
+with_coming rs None u = u
+with_coming rs (Some y) u = record u { soon = if is_usable rs y.context then scheduled u.soon y.object y.context else unscheduled u.soon y.object }
+
+abbrev pub count_of : Option Coming → ℕ
+count_of None = 0
+count_of (Some y) = 1
+
 -- nothing comes in a context any more, and what it watched is lost
 abbrev pub cleared : Obj → Upcoming → Upcoming
 cleared c u = record u { soon = soon_without u.soon c; times = times_without u.times c; ring = ring_without u.ring c }

@@ -1,6 +1,7 @@
 //! The objects of a host: rows, references, limits and open frees as one thing, which keeps them in agreement.
 #![tactic(auto)]
 
+mod contexts;
 mod counting;
 mod events;
 mod places;

@@ -12,7 +12,7 @@ returns-in-None-clause-lane c = λ K F k out there.
     (lane-nowhere c.args.self.now K F c.args.x out k)
 
 pub join_lane-requires : goal.join_lane-requires
-join_lane-requires c = subst (OnContext (HasFewer c.args.self.now.ends (map.len c.args.self.now.nodes.pairs))) c.in-Some.is c.requires
+join_lane-requires c = subst (OnContext (HasFewer c.args.self.now.ends.lanes (map.len c.args.self.now.nodes.pairs))) c.in-Some.is c.requires
 
 pub returns-in-Some-clause-lane : goal.returns-in-Some-clause-lane
 returns-in-Some-clause-lane c = λ K F k out there.

@@ -25,7 +25,7 @@ returns-clause-lane c = λ K F k out there.
     joins c.args.self.now c.set_place.new.nodes c.set.new.self c.saturating_add-self.result (λ b. (omega (arith, r, b), omega (arith, r, b))) K F k c.args.x c.args.c.0 c.unwrap-ends.result out there (sym c.get.ensures ∙ c.unwrap-ends.ensures)
     (sides_at c.set_link.new.nodes.pairs) (stamp_at c.set_link.new.nodes.pairs)
     c.set_link.ensures.sides c.set_link.ensures.stamps c.set_place.ensures.sides c.set_place.ensures.stamps
-    (c.set.ensures ∙ ap (map.insert c.args.self.now.ends c.args.c.0) c.joined.ensures)
+    (c.set.ensures.lanes ∙ ap (map.insert c.args.self.now.ends.lanes c.args.c.0) c.joined.ensures)
 
 pub returns-clause-open_ones : goal.returns-clause-open_ones
-returns-clause-open_ones c = open-set c.args.self.now.ends c.set.new.self c.args.c.0 _ (ap is_some c.requires.1) c.set.ensures
+returns-clause-open_ones c = open-set c.args.self.now.ends.lanes c.set.new.self.lanes c.args.c.0 _ (ap is_some c.requires.1) c.set.ensures.lanes

@@ -21,7 +21,7 @@ returns-clause-lane c = λ K F x k in_lane found.
     leaves c.args.self.now c.set_link-2.new.nodes c.set.new.self K F k x c.args.c.0 c.args.sides c.unwrap-ends.result in_lane found (sym c.get.ensures ∙ c.unwrap-ends.ensures)
     (sides_at c.set_link.new.nodes.pairs) c.set_link.ensures.sides c.set_link-2.ensures.sides
     (λ q. c.set_link-2.ensures.stamps q ∙ c.set_link.ensures.stamps q)
-    (c.set.ensures ∙ ap (map.insert c.args.self.now.ends c.args.c.0) c.left.ensures)
+    (c.set.ensures.lanes ∙ ap (map.insert c.args.self.now.ends.lanes c.args.c.0) c.left.ensures)
 
 pub returns-clause-open_ones : goal.returns-clause-open_ones
-returns-clause-open_ones c = open-set c.args.self.now.ends c.set.new.self c.args.c.0 _ (ap is_some c.requires.1) c.set.ensures
+returns-clause-open_ones c = open-set c.args.self.now.ends.lanes c.set.new.self.lanes c.args.c.0 _ (ap is_some c.requires.1) c.set.ensures.lanes

@@ -7,6 +7,7 @@ invariant-loop-x l = record {
   all : ring_without l.self.watches l.c ≡ ring_without l.fn.self.watches l.c;
   contexts : l.self.contexts ≡ l.fn.self.contexts;
   spare : l.fn.self.spare ≤ l.self.spare;
+  contexts_spare : l.fn.self.contexts_spare ≤ l.self.contexts_spare;
 }
 
 abbrev pub decreases-loop-x : goal.decreases-loop-x

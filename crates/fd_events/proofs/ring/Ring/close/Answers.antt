@@ -9,4 +9,4 @@ pub invariant_of-self : goal.invariant_of-self
 invariant_of-self c =
     keeps-noted _ _ c.self.inside.changes.items c.and-self-inside.result.items (Closes c.args.c) c.and-self-inside.ensures
     (keeps-closed c.self.inside.lane c.self.inside.holders.pairs _ _ c.self.invariant c.args.c
-    (ap (λ (r : Rotation). ring_in r.watches c.args.c) c.self.view_is ∙ c.requires) c.drop_lane.new.self c.drop_lane.ensures)
+    (ap (λ (r : Rotation). ring_in r.watches c.args.c) c.self.view_is ∙ c.requires) c.drop_lane.new.self c.drop_lane.ensures.lanes)

@@ -12,7 +12,7 @@ pub returns-in-None : goal.returns-in-None
 returns-in-None c =
     let xs = coming_of c.self.inside.changes.items in
     sym (ap (λ (v : Waiting). length (soon_in v.coming c.args.c)) (sym c.self.view_is) ∙ soon-length xs c.args.c
-    ∙ ap (λ (l : List ℕ). length l) (unknown-empty (context_at c.self.inside.nodes.pairs) (sides_at c.self.inside.nodes.pairs) (map.get c.self.inside.ends) (lane_in xs) c.self.invariant.family
+    ∙ ap (λ (l : List ℕ). length l) (unknown-empty (context_at c.self.inside.nodes.pairs) (sides_at c.self.inside.nodes.pairs) (map.get c.self.inside.ends.lanes) (lane_in xs) c.self.invariant.family
     c.args.c.0 (sym c.get.ensures ∙ c.in-None.is)))
 
 pub returns-in-Some : goal.returns-in-Some

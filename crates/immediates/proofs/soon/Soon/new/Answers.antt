@@ -7,5 +7,5 @@ use Rattle.immediates.proofs.soon.Soon.new.Goals as goal
 
 pub invariant_of-result : goal.invariant_of-result
 invariant_of-result c =
-    subst (λ (l : List (Change × Unit {0})). IsKept c.new.result.pairs c.new-2.result (coming_of l) (contexts_of l)) (sym c.new-3.ensures)
-    (keeps-new c.new.result.pairs c.new-2.result c.new.ensures.empty c.new-2.ensures)
+    subst (λ (l : List (Change × Unit {0})). IsKept c.new.result.pairs c.new-2.result.lanes (coming_of l) (contexts_of l)) (sym c.new-3.ensures)
+    (keeps-new c.new.result.pairs c.new-2.result.lanes c.new.ensures.empty c.new-2.ensures)

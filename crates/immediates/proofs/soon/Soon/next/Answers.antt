@@ -13,7 +13,7 @@ pub returns-in-None-clause-next : goal.returns-in-None-clause-next
 returns-in-None-clause-next c =
     let xs = coming_of c.self.inside.changes.items in
     sym (ap (λ (v : Waiting). next_in v.coming c.args.c) (sym c.self.view_is) ∙ soon-next xs c.args.c
-    ∙ ap (λ (l : List ℕ). option_map numbered (last l)) (unknown-empty (context_at c.self.inside.nodes.pairs) (sides_at c.self.inside.nodes.pairs) (map.get c.self.inside.ends) (lane_in xs) c.self.invariant.family
+    ∙ ap (λ (l : List ℕ). option_map numbered (last l)) (unknown-empty (context_at c.self.inside.nodes.pairs) (sides_at c.self.inside.nodes.pairs) (map.get c.self.inside.ends.lanes) (lane_in xs) c.self.invariant.family
     c.args.c.0 (sym c.get.ensures ∙ c.in-None.is)))
 
 pub returns-in-Some-clause-next : goal.returns-in-Some-clause-next

@@ -22,7 +22,7 @@ absent c =
 
 pub invariant_of-self : goal.invariant_of-self
 invariant_of-self c =
-    subst (λ m. IsKept m c.self.inside.ends (coming_of c.self.inside.changes.items) (contexts_of c.self.inside.changes.items)) (sym (same c)) c.self.invariant
+    subst (λ m. IsKept m c.self.inside.ends.lanes (coming_of c.self.inside.changes.items) (contexts_of c.self.inside.changes.items)) (sym (same c)) c.self.invariant
 
 pub returns-in_default-clause-result : goal.returns-in_default-clause-result
 returns-in_default-clause-result c = sym (absent c)
@@ -35,12 +35,12 @@ returns-in_default-clause-coming c = ap (λ (v : Waiting). v.coming) c.self.view
 pub invariant_of-self-2 : goal.invariant_of-self-2
 invariant_of-self-2 c =
     keeps-noted _ _ c.self.inside.changes.items c.and-self-inside.result.items (Leaves c.args.x) c.and-self-inside.ensures
-    (keeps-left c.self.inside.nodes.pairs c.self.inside.ends _ _ c.self.invariant c.args.x c.in-Some.node (sym c.take.ensures.value ∙ c.in-Some.is)
+    (keeps-left c.self.inside.nodes.pairs c.self.inside.ends.lanes _ _ c.self.invariant c.args.x c.in-Some.node (sym c.take.ensures.value ∙ c.in-Some.is)
     c.unwrap-ends.result (sym c.get.ensures ∙ c.unwrap-ends.ensures)
-    c.take.new.self.pairs c.set_link.new.nodes.pairs c.set_link-2.new.nodes.pairs c.set.new.self c.take.ensures.pairs
+    c.take.new.self.pairs c.set_link.new.nodes.pairs c.set_link-2.new.nodes.pairs c.set.new.self.lanes c.take.ensures.pairs
     c.set_link.ensures.sides c.set_link.ensures.contexts c.set_link.ensures.len
     c.set_link-2.ensures.sides c.set_link-2.ensures.contexts c.set_link-2.ensures.len
-    (c.set.ensures ∙ ap (map.insert c.self.inside.ends c.in-Some.node.context) c.left.ensures))
+    (c.set.ensures.lanes ∙ ap (map.insert c.self.inside.ends.lanes c.in-Some.node.context) c.left.ensures))
 
 pub returns-clause-result : goal.returns-clause-result
 returns-clause-result c =
