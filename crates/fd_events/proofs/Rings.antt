@@ -213,7 +213,6 @@ listed-numbers (w ∷ ws) a =
     still : (q : ℕ) → has (numbers_of ws) q ≡ true → watch_in (w ∷ ws) q ≡ watch_in ws q
     still q m = let t = off q m in rw t refl
 
-
 -- ---- one fewer
 
 pub length-gone : (ws : List Watch) (x : Obj) → AreEventsOnce ws → is_watching ws x ≡ true → length (unwatched ws x) + 1 ≡ length ws

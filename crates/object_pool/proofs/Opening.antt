@@ -2,6 +2,8 @@
 use Rattle.std.proofs.Common.{◌≡◌, Option, Some, None, true, slice_get, inl, inr, refl, sym, ◌∙◌, ap, subst, arith}
 use Rattle.tree_specs.specs.declared.frame.FreeFrame.{FreeFrame}
 use Rattle.tree_specs.specs.declared.frame.FreeFrame.TheVariants.{Preparing, Draining}
+use Rattle.tree_specs.specs.declared.object.Obj.{Obj}
+use Rattle.tree_specs.specs.Tree.Pool.{is_usable}
 use Rattle.tree_links.specs.Links.{Links, pool_of}
 use Rattle.destructors.specs.Engine.{IsPreparing, AreKept, HasRoom, HasRoomFor}
 use Rattle.destructors.specs.Frees.{before, frees_of, speaking}
@@ -10,8 +12,9 @@ use Rattle.destructors.specs.Works.{IsAwaiting, IsAtWork}
 use Rattle.destructors.proofs.Begins.{any-room-for, room-within}
 use Rattle.object_pool.specs.Agreeing.{AgreeWith}
 use Rattle.object_pool.specs.Objects.{Objects, MayBeginFree, frees_in, objects_of}
-use Rattle.object_pool.specs.Upcoming.{nothing_comes}
+use Rattle.object_pool.specs.Upcoming.{holds_context, nothing_comes}
 use Rattle.object_pool.specs.declared.pool.ObjectPool.TheInside.{Inside}
+use Rattle.object_pool.proofs.Hosted.{holds-usable}
 use Rattle.object_pool.proofs.Beside.{awaits-same, works-same, speaking-beside}
 
 -- the objects, by the parts
@@ -19,10 +22,10 @@ abbrev pub seen : Inside → Objects
 seen b = objects_of b.engine b.tree b.events.upcoming b.ready
 
 pub awaits-inside : (b : Inside) (o : Objects) → seen b ≡ o → IsAwaiting (frees_in o) → IsAwaiting (frees_of b.engine b.tree)
-awaits-inside b o e a = awaits-same (pool_of b.tree) b.events.upcoming nothing_comes (before b.engine b.tree.frees) (subst (λ (z : Objects). IsAwaiting (frees_in z)) (sym e) a)
+awaits-inside b o e a = awaits-same (pool_of b.tree) b.events.upcoming nothing_comes refl (before b.engine b.tree.frees) (subst (λ (z : Objects). IsAwaiting (frees_in z)) (sym e) a)
 
 pub at_work-inside : (b : Inside) (o : Objects) → seen b ≡ o → IsAtWork (frees_in o) → IsAtWork (frees_of b.engine b.tree)
-at_work-inside b o e a = works-same (pool_of b.tree) b.events.upcoming nothing_comes (before b.engine b.tree.frees) (subst (λ (z : Objects). IsAtWork (frees_in z)) (sym e) a)
+at_work-inside b o e a = works-same (pool_of b.tree) b.events.upcoming nothing_comes refl (before b.engine b.tree.frees) (subst (λ (z : Objects). IsAtWork (frees_in z)) (sym e) a)
 
 pub settled-inside : (b : Inside) (o : Objects) → seen b ≡ o → speaking (frees_in o) ≡ true → speaking (frees_of b.engine b.tree) ≡ true
 settled-inside b o e s = sym (speaking-beside b.events.upcoming (frees_of b.engine b.tree)) ∙ ap (λ (z : Objects). speaking (frees_in z)) e ∙ s
@@ -51,3 +54,7 @@ room-begins f b o e none may a = elim (subst MayBeginFree (sym e) may) [
   | inl ready ↦ room-ready f b ready a
   | inr preparing ↦ preparing-room f b.engine b.tree none a.room (subst IsPreparing (innermost-is b.engine b.tree a.kept) preparing)
 ]
+
+-- all may come in a context that is usable
+pub held-usable : (b : Inside) (o : Objects) → seen b ≡ o → AgreeWith b → (c : Obj) → is_usable o.pool.rows c ≡ true → holds_context b.events c ≡ true
+held-usable b o e a c usable = holds-usable b.tree.rows b.events a.contexts c (subst (λ (z : Objects). is_usable z.pool.rows c ≡ true) (sym e) usable)

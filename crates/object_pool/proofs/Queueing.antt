@@ -9,22 +9,22 @@ use Rattle.tree_specs.proofs.Tree.Numbered.{by_test}
 use Rattle.request_queue.specs.Register.{IsAbove, starts_next, started, triggered_by}
 use Rattle.object_pool.specs.declared.pool.ObjectPool.TheInside.{Inside}
 use Rattle.object_pool.specs.Agreeing.{AgreeWith}
-use Rattle.object_pool.specs.Upcoming.{Upcoming, Agenda, KeepsPlaces, AllBefore, AreGiven, key_number, running, with_queues}
+use Rattle.object_pool.specs.Upcoming.{Upcoming, Agenda, KeepsPlaces, KeepsContexts, AllBefore, AreGiven, key_number, running, with_queues}
 use Rattle.object_pool.proofs.Given.{kept-put, running-given, running-entries}
 use Rattle.object_pool.proofs.Keeping.{becomes}
 
 -- what is kept of queues is this now, of no more entries
 pub queues-agree : (b : Inside) (e : Agenda) (qs : Queues) → e.upcoming ≡ with_queues qs b.events.upcoming → length qs.entries ≤ length b.events.upcoming.queues.entries → AllBefore key_number b.tree.next qs.running
-    → AllBefore key_number b.tree.next qs.entries → KeepsPlaces b.events e → AgreeWith b → AgreeWith (record b { events = e })
-queues-agree b e qs is n queues entries k a =
-    becomes b e (with_queues qs b.events.upcoming) is k (omega (arith, n)) (record { times = a.given.times; ring = a.given.ring; requests = a.given.requests; queues = queues; entries = entries }) a
+    → AllBefore key_number b.tree.next qs.entries → KeepsPlaces b.events e → KeepsContexts b.events e → AgreeWith b → AgreeWith (record b { events = e })
+queues-agree b e qs is n queues entries k kc a =
+    becomes b e (with_queues qs b.events.upcoming) is k kc (omega (arith, n)) (record { times = a.given.times; ring = a.given.ring; requests = a.given.requests; queues = queues; entries = entries }) a
 
 -- a queue runs, or it doesn't
-pub ran-agree : (b : Inside) (e : Agenda) (q : Obj) (on : Bool) → e.upcoming ≡ with_queues (run_as b.events.upcoming.queues q on) b.events.upcoming → KeepsPlaces b.events e → AgreeWith b → AgreeWith (record b { events = e })
-ran-agree b e q on is k a =
+pub ran-agree : (b : Inside) (e : Agenda) (q : Obj) (on : Bool) → e.upcoming ≡ with_queues (run_as b.events.upcoming.queues q on) b.events.upcoming → KeepsPlaces b.events e → KeepsContexts b.events e → AgreeWith b → AgreeWith (record b { events = e })
+ran-agree b e q on is k kc a =
     let qs = b.events.upcoming.queues in
     let same_entries = running-entries qs q on in
-    queues-agree b e (run_as qs q on) is (rw same_entries (omega arith)) (running-given b.tree.next qs q on a.given.queues) (rw same_entries a.given.entries) k a
+    queues-agree b e (run_as qs q on) is (rw same_entries (omega arith)) (running-given b.tree.next qs q on a.given.queues) (rw same_entries a.given.entries) k kc a
 
 -- an entry has a number that was given
 head-before : (n : ℕ) (es : List (ℕ × QueueEntry)) (q : Obj) (h : Head) → AllBefore key_number n es → head_in es q ≡ Some h → h.object.0 < n
@@ -35,8 +35,8 @@ head-before n (f ∷ fs) q h a e = by_test (same f.1.queue q)
 
 -- the trigger of an entry begins
 pub triggered-agree : (b : Inside) (e : Agenda) (q : Obj) → e.upcoming ≡ with_queues (triggered_by (next_of b.events.upcoming.queues q) b.events.upcoming.queues) b.events.upcoming
-    → length (triggered_by (next_of b.events.upcoming.queues q) b.events.upcoming.queues).entries ≡ length b.events.upcoming.queues.entries → KeepsPlaces b.events e → AgreeWith b → AgreeWith (record b { events = e })
-triggered-agree b e q is n k a = queues-agree b e _ is (omega (arith, n)) (running (next_of qs q)) (entries (next_of qs q) refl) k a
+    → length (triggered_by (next_of b.events.upcoming.queues q) b.events.upcoming.queues).entries ≡ length b.events.upcoming.queues.entries → KeepsPlaces b.events e → KeepsContexts b.events e → AgreeWith b → AgreeWith (record b { events = e })
+triggered-agree b e q is n k kc a = queues-agree b e _ is (omega (arith, n)) (running (next_of qs q)) (entries (next_of qs q) refl) k kc a
   where
     qs : Queues
     qs = b.events.upcoming.queues

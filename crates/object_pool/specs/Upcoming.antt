@@ -1,5 +1,5 @@
 -- What is to come beside the objects, and what a free or a turn leaves of it.
-use Rattle.std.specs.Prelude.{ℕ, ◌≡◌, ◌+◌, ◌≤◌, ◌<◌, Bool, true, false, ◌&&◌, List, [], ◌∷◌, length, Option, Some, None, unwrap_or, if◌then◌else◌}
+use Rattle.std.specs.Prelude.{ℕ, ◌≡◌, ◌+◌, ◌≤◌, ◌<◌, Bool, true, false, not, ◌&&◌, List, [], ◌∷◌, length, Option, Some, None, unwrap_or, if◌then◌else◌}
 use Rattle.tree_specs.specs.declared.coming.Coming.{Coming}
 use Rattle.tree_specs.specs.declared.due.Due.{Due}
 use Rattle.tree_specs.specs.declared.handler.Handler.{Handler}
@@ -10,7 +10,7 @@ use Rattle.tree_specs.specs.declared.object.Obj.{Obj}
 use Rattle.tree_specs.specs.declared.request.Note.{Note}
 use Rattle.tree_specs.specs.declared.request.State.{State}
 use Rattle.tree_specs.specs.declared.free_step.FreeStep.{FreeStep}
-use Rattle.tree_specs.specs.declared.free_step.FreeStep.TheVariants.{Dropped, Doom, Left, Gone}
+use Rattle.tree_specs.specs.declared.free_step.FreeStep.TheVariants.{Dropped, Gone}
 use Rattle.tree_specs.specs.Events.Contexts.{has_context, without_context}
 use Rattle.tree_specs.specs.Events.Pending.{scheduled, unscheduled, soon_in, soon_without, armed, disarmed, times_in, times_without}
 use Rattle.tree_specs.specs.Events.Rotation.{watched, unwatched, rewatched, closes_with, ring_in, ring_without}
@@ -23,7 +23,7 @@ use Rattle.tree_specs.specs.Tree.Pool.{Pool, is_usable, unschedule, disarm, look
 use Rattle.tree_specs.specs.Words.Objects.{same, first_context}
 use Rattle.loop_core.specs.declared.pick.Pick.{Pick}
 use Rattle.loop_core.specs.declared.pick.Pick.TheVariants.{Soon, Time}
-use Rattle.destructors.specs.Frees.{OpenFrees}
+use Rattle.destructors.specs.Frees.{OpenFrees, let_go_by}
 
 pub record Upcoming : Type 0 where
   -- objects that come soon, each in its context, the first in first
@@ -49,6 +49,10 @@ nothing_comes = record { soon = []; times = []; ring = []; descriptors = listene
 -- the same objects, with this to come
 abbrev pub beside : Upcoming → Pool → Pool
 beside u p = record p { soon = u.soon; times = u.times; ring = u.ring; descriptors = u.descriptors; handlers = u.handlers; requests = u.requests; queues = u.queues; turning = u.turning }
+
+-- what is to come beside the objects of a pool
+abbrev pub upcoming_in : Pool → Upcoming
+upcoming_in p = record { soon = p.soon; times = p.times; ring = p.ring; descriptors = p.descriptors; handlers = p.handlers; requests = p.requests; queues = p.queues; turning = p.turning }
 
 abbrev pub frees_beside : Upcoming → OpenFrees → OpenFrees
 frees_beside u s = record s { pool = beside u s.pool }
@@ -91,13 +95,19 @@ holds_context a c = has_context a.soon_contexts c && (has_context a.times_contex
 abbrev pub HoldsUsable : List Row → Agenda → Type 0
 HoldsUsable rs a = (c : Obj) → is_usable rs c ≡ true → holds_context a c ≡ true
 
--- no context is lost
-abbrev pub KeepsContexts : Agenda → Agenda → Type 0
-KeepsContexts old new = (c : Obj) → holds_context old c ≡ true → holds_context new c ≡ true
+-- no context is lost, and no fewer may come
+pub record KeepsContexts (old new : Agenda) : Type 0 where
+  pub held : (c : Obj) → holds_context old c ≡ true → holds_context new c ≡ true
+  pub spare : old.contexts_spare ≤ new.contexts_spare
 
--- but for this one, where it is an object
-abbrev pub KeepsOtherContexts : Obj → Agenda → Agenda → Type 0
-KeepsOtherContexts x old new = (c : Obj) → same x c ≡ false → holds_context old c ≡ true → holds_context new c ≡ true
+-- but for this one, where there is one
+abbrev pub is_other : Option Obj → Obj → Bool
+is_other None c = true
+is_other (Some x) c = not (same x c)
+
+pub record KeepsAllBut (gone : Option Obj) (old new : Agenda) : Type 0 where
+  pub held : (c : Obj) → is_other gone c ≡ true → holds_context old c ≡ true → holds_context new c ≡ true
+  pub spare : old.contexts_spare ≤ new.contexts_spare
 
 -- One more may come. Besides, each entry has a place among what comes soon, and so will one more entry: the queue that an entry
 -- leaves may come soon.
@@ -163,32 +173,36 @@ pub record IsForgettable (x : Obj) (u : Upcoming) : Type 0 where
   pub times : times_in u.times x ≡ []
   pub ring : ring_in u.ring x ≡ []
 
--- what is no more can be forgotten
+-- what a step makes an end of can be forgotten
 abbrev pub MayForget : Option FreeStep → Upcoming → Type 0
 MayForget (Some (Gone x h)) u = IsForgettable x u
 MayForget (Some (Dropped r target)) u = IsForgettable r u
 MayForget told u = Unit {0}
 
--- By the rows before the step: an object that leaves its owner, or is to go once its handler is over, waits no more, and nothing is
--- kept of what is no more.
-abbrev pub after : List Row → Option FreeStep → Upcoming → Upcoming
-after rs (Some (Left x from)) u = without_event rs x u
-after rs (Some (Doom x)) u = without_event rs x u
-after rs (Some (Gone x h)) u = forgotten x u
-after rs (Some (Dropped r target)) u = forgotten r u
-after rs told u = u
+-- by the rows before it: what a step lets go of waits no more
+abbrev pub without_left : List Row → Option Obj → Upcoming → Upcoming
+without_left rs None u = u
+without_left rs (Some x) u = without_event rs x u
 
--- what a step forgets
+-- what a step makes an end of
 abbrev pub gone_by : Option FreeStep → Option Obj
 gone_by (Some (Gone x h)) = Some x
 gone_by (Some (Dropped r target)) = Some r
 gone_by told = None
 
+-- nothing is kept of it
+abbrev pub without_gone : Option Obj → Upcoming → Upcoming
+without_gone None u = u
+without_gone (Some x) u = forgotten x u
+
+-- what is to come after a step, by the rows before it
+abbrev pub after : List Row → Option FreeStep → Upcoming → Upcoming
+after rs told u = without_gone (gone_by told) (without_left rs (let_go_by told) u)
+
 -- the descriptor that a step closes, by what was watched before it
-abbrev pub closed_of : List Watch → FreeStep → Option ℕ
-closed_of ring (Left x from) = closes_with ring x
-closed_of ring (Doom x) = closes_with ring x
-closed_of ring step = None
+abbrev pub closed_of : List Watch → Option Obj → Option ℕ
+closed_of ring None = None
+closed_of ring (Some x) = closes_with ring x
 
 -- with this handler an object comes soon, or at a time under its own number, in the handler's context
 abbrev pub soon_with : Obj → Handler → Upcoming → Upcoming

@@ -73,7 +73,8 @@ impl Events {
     ghost use Rattle.tree_specs.specs.Events.Rotation.{is_watching, is_watched, flags_of, flagged, closing, turned_back, closes_with, wanted_of};
     ghost use Rattle.tree_specs.specs.Events.Descriptors.{is_open_in};
     ghost use Rattle.loop_core.specs.Picks.{begin_pick, clock_pick, ready_pick};
-    ghost use Rattle.object_pool.specs.Upcoming.{nothing_comes, here, pending, pending_most, HasPlace, KeepsPlaces, holds_context, HoldsUsable, KeepsContexts, KeepsOtherContexts, after, closed_of, picked, soon_with, timed_with, watching_with, with_watch, with_open, with_closed, without_event, stilled, cleared, forgotten, IsForgettable, MayForget, gone_by, turned_to};
+    ghost use Rattle.object_pool.specs.Upcoming.{nothing_comes, here, pending, pending_most, HasPlace, KeepsPlaces, holds_context, HoldsUsable, KeepsContexts, KeepsAllBut, without_gone, picked, soon_with, timed_with, watching_with, with_watch, with_open, with_closed, without_event, stilled, cleared, forgotten, IsForgettable, MayForget, gone_by, turned_to};
+    ghost use Rattle.tree_specs.specs.declared.object.Obj.{Obj as ObjData};
     ghost use Rattle.tree_specs.specs.Events.Pending.{soon_in, times_in};
     ghost use Rattle.tree_specs.specs.Events.Rotation.{ring_in};
     ghost use Rattle.tree_specs.specs.Events.Queues.{has_entries};
@@ -103,7 +104,6 @@ impl Events {
         ensures upcoming { self.new.upcoming ≡ self.old.upcoming }
         ensures kept { KeepsPlaces self.old self.new }
         ensures contexts { KeepsContexts self.old self.new }
-        ensures contexts_spare { self.new.contexts_spare ≡ self.old.contexts_spare }
         ensures place { OnOk result (HasPlace self.new) }
         ensures counted { OnOk result (pending_most self.new.upcoming < 2 ^ 64) }
     {
@@ -126,7 +126,6 @@ impl Events {
         ensures kept { KeepsPlaces self.old self.new }
         ensures contexts { KeepsContexts self.old self.new }
         ensures spare { OnOk result (0 < self.new.contexts_spare) }
-        ensures no_fewer { self.old.contexts_spare ≤ self.new.contexts_spare }
     {
         self.order.reserve_context()
     }
@@ -136,7 +135,7 @@ impl Events {
         requires { 0 < self.old.contexts_spare }
         ensures upcoming { self.new.upcoming ≡ self.old.upcoming }
         ensures added { holds_context self.new c ≡ true }
-        ensures contexts { KeepsContexts self.old self.new }
+        ensures held { (d : ObjData) → holds_context self.old d ≡ true → holds_context self.new d ≡ true }
     {
         self.order.add_context(c);
     }
@@ -323,7 +322,7 @@ impl Events {
 
     /// Takes an object out of all that is to come, and an entry out of its queue. Nothing comes in a context any more.
     /// Gives the descriptor that was closed with it, where one was.
-    fn let_go(&mut self, x: Obj, tree: &Tree) -> Option<u32>
+    pub fn let_go(&mut self, x: Obj, tree: &Tree) -> Option<u32>
         requires { HoldsUsable tree.now.rows self.old }
         ensures closed { result ≡ closes_with self.old.upcoming.ring x }
         ensures upcoming { self.new.upcoming ≡ without_event tree.now.rows x self.old.upcoming }
@@ -341,7 +340,7 @@ impl Events {
         requires { IsForgettable x self.old.upcoming }
         ensures upcoming { self.new.upcoming ≡ forgotten x self.old.upcoming }
         ensures kept { KeepsPlaces self.old self.new }
-        ensures contexts { KeepsOtherContexts x self.old self.new }
+        ensures contexts { KeepsAllBut (Some x) self.old self.new }
     {
         self.handlers.take(x.0);
         self.requests.forget(x);
@@ -349,27 +348,18 @@ impl Events {
         self.order.drop_context(x);
     }
 
-    /// Follows a step of a free: an object that has left its owner, or is to go once its handler is over, waits no
-    /// more, nothing comes in it, and nothing is kept of what is no more. Gives the descriptor that was closed, where one
-    /// was.
-    pub fn follow(&mut self, step: &FreeStep, tree: &Tree) -> Option<u32>
-        requires forget { MayForget (Some step.now) self.old.upcoming }
-        requires usable { HoldsUsable tree.now.rows self.old }
-        ensures closed { result ≡ closed_of self.old.upcoming.ring step.now }
-        ensures upcoming { self.new.upcoming ≡ after tree.now.rows (Some step.now) self.old.upcoming }
+    /// Follows a step of a free: nothing is kept of what is no more.
+    pub fn follow(&mut self, step: &FreeStep)
+        requires { MayForget (Some step.now) self.old.upcoming }
+        ensures upcoming { self.new.upcoming ≡ without_gone (gone_by (Some step.now)) self.old.upcoming }
         ensures kept { KeepsPlaces self.old self.new }
-        ensures contexts { gone_by (Some step.now) ≡ None → KeepsContexts self.old self.new }
-        ensures others { (x : ObjData) → gone_by (Some step.now) ≡ Some x → KeepsOtherContexts x self.old self.new }
+        ensures contexts { KeepsAllBut (gone_by (Some step.now)) self.old self.new }
     {
         match step {
-            FreeStep::Left { object, .. } | FreeStep::Doom(object) => {
-                return self.let_go(*object, tree);
-            }
             FreeStep::Gone { object, .. } => self.forget(*object),
             FreeStep::Dropped { reference, .. } => self.forget(*reference),
             _ => {}
         }
-        None
     }
 
     /// The handler of an event. None exactly where it has none.

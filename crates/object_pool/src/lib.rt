@@ -4,6 +4,7 @@
 mod contexts;
 mod counting;
 mod events;
+mod marks;
 mod places;
 mod pool;
 

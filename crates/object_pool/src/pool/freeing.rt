@@ -1,5 +1,5 @@
 //! Frees on the objects: their beginnings, and what comes next of the innermost one.
-ghost use Rattle.std.specs.Prelude.{◌≡◌, ◌∷◌, ◌≤◌, List, true, None, IfSome, OnSome, is_some, slice_get};
+ghost use Rattle.std.specs.Prelude.{◌≡◌, ◌∷◌, ◌≤◌, List, true, None, Some, IfSome, OnSome, is_some, slice_get};
 ghost use Rattle.tree_specs.specs.declared.free_step.FreeStep.TheVariants.{Done};
 ghost use Rattle.tree_specs.specs.declared.watch.Watch.{Watch as WatchData};
 ghost use Rattle.tree_specs.specs.declared.frame.FreeFrame.TheVariants.{Unlinking, Beginning, Looping};
@@ -7,12 +7,12 @@ ghost use Rattle.tree_specs.specs.declared.frame.Purpose.TheVariants.{Emptying};
 ghost use Rattle.tree_specs.specs.Tree.Pool.{target_at};
 ghost use Rattle.tree_specs.specs.Tree.Targets.{newest_ref};
 ghost use Rattle.tree_specs.specs.Machine.Table.{event_of};
-ghost use Rattle.destructors.specs.Frees.{next_of, is_event, returned, speaking, Begins, Steps};
+ghost use Rattle.destructors.specs.Frees.{next_of, is_event, let_go_by, returned, speaking, Begins, Steps};
 ghost use Rattle.destructors.specs.Works.{IsAtWork, IsAwaiting, GoesOn};
 ghost use Rattle.destructors.specs.Moves.{IsLiveRow};
 ghost use Rattle.destructors.specs.Engine.{IsAsked, ended_with};
 ghost use Rattle.object_pool.specs.Objects.{frees_in, LeavesRest, MayBeginFree};
-ghost use Rattle.object_pool.specs.Upcoming.{closed_of, MayForget};
+ghost use Rattle.object_pool.specs.Upcoming.{closed_of, upcoming_in, MayForget};
 ghost use Rattle.object_pool.specs.Requests.{count_unreceived};
 
 use crate::counting::count_step;
@@ -29,7 +29,7 @@ pub struct Progress {
 /// The event that is told of a step of a free which has closed this descriptor, or none.
 #[tactic(auto, using(crate::proofs::Announcing::closed_told))]
 fn event(step: &FreeStep, closed: Option<u32>) -> Option<Event>
-    ensures { (ring : List WatchData) → closed ≡ closed_of ring step.now → result ≡ event_of ring step.now }
+    ensures { (ring : List WatchData) → closed ≡ closed_of ring (let_go_by (Some step.now)) → result ≡ event_of ring step.now }
 {
     match *step {
         FreeStep::Dropped { reference, target } => Some(Event::Unreferenced { reference, target }),
@@ -138,7 +138,7 @@ impl ObjectPool {
     pub fn step(&mut self) -> Progress
         requires at_work { IsAtWork (frees_in self.old) }
         requires settled { speaking (frees_in self.old) ≡ true }
-        requires emptied { MayForget (next_of (frees_in self.old)).0 self.old.pool.queues }
+        requires forgettable { MayForget (next_of (frees_in self.old)).0 (upcoming_in self.old.pool) }
         ensures steps { Steps (frees_in self.old) result.step (frees_in self.new) }
         ensures goes_on { GoesOn result.step (frees_in self.new) }
         ensures told { result.event ≡ event_of self.old.pool.ring result.step }
@@ -148,9 +148,14 @@ impl ObjectPool {
         // Read for the prover: the contract of `len` says that the objects are a forest.
         let _rows = self.tree.len();
         self.ready = false;
+        // What lets go looks at the contexts as they are before the step.
+        let closed = match self.engine.lets_go(&self.tree, &self.refs) {
+            Some(x) => self.events.let_go(x, &self.tree),
+            None => None,
+        };
         let step = self.engine.step(&mut self.tree, &mut self.refs);
         count_step(&step, &self.tree, &mut self.sums);
-        let closed = self.events.follow(&step);
+        self.events.follow(&step);
         let event = event(&step, closed);
         Progress { step, event }
     }
