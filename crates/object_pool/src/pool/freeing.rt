@@ -7,16 +7,21 @@ ghost use Rattle.tree_specs.specs.declared.frame.Purpose.TheVariants.{Emptying};
 ghost use Rattle.tree_specs.specs.Tree.Pool.{target_at};
 ghost use Rattle.tree_specs.specs.Tree.Targets.{newest_ref};
 ghost use Rattle.tree_specs.specs.Machine.Table.{event_of};
-ghost use Rattle.destructors.specs.Frees.{next_of, is_event, let_go_by, returned, speaking, Begins, Steps};
+ghost use Rattle.destructors.specs.Frees.{frees_of, next_of, is_event, let_go_by, returned, speaking, Begins, Steps};
 ghost use Rattle.destructors.specs.Works.{IsAtWork, IsAwaiting, GoesOn};
 ghost use Rattle.destructors.specs.Moves.{IsLiveRow};
-ghost use Rattle.destructors.specs.Engine.{IsAsked, ended_with};
+ghost use Rattle.destructors.specs.Engine.{AreKept, IsAsked, ended_with};
+ghost use Rattle.references.specs.Rows.{AreRefsOf};
 ghost use Rattle.object_pool.specs.Objects.{frees_in, LeavesRest, MayBeginFree};
-ghost use Rattle.object_pool.specs.Upcoming.{closed_of, upcoming_in, MayForget};
+ghost use Rattle.object_pool.specs.Upcoming.{closed_of, upcoming_in, without_left, HoldsUsable, KeepsPlaces, KeepsContexts, MayForget};
 ghost use Rattle.object_pool.specs.Requests.{count_unreceived};
 
 use crate::counting::count_step;
+use crate::events::Events;
 use crate::pool::ObjectPool;
+use destructors::FreeEngine;
+use references::Refs;
+use tree_links::Tree;
 use tree_specs::{Event, FreeReply, FreeStep, Obj, Owner};
 
 /// What comes next of a free: the step, and the event that is told of it, if there is one.
@@ -40,6 +45,27 @@ fn event(step: &FreeStep, closed: Option<u32>) -> Option<Event>
         FreeStep::Doom(_) | FreeStep::Left { .. } => closed.map(Event::Closed),
         FreeStep::Ask(_) | FreeStep::Prepare(_) | FreeStep::Drain(_) | FreeStep::Done(_) => None,
     }
+}
+
+/// Lets go of what the next step of the innermost free lets go of: it waits no more. Gives the descriptor that was closed,
+/// where one was. This comes before the step, since a queue comes soon by the contexts as they are before it.
+fn let_go_next(
+    engine: &FreeEngine,
+    tree: &Tree,
+    refs: &Refs,
+    events: &mut Events,
+) -> Option<u32>
+    requires refs { AreRefsOf refs.now.pairs tree.now.rows }
+    requires kept { AreKept engine.now tree.now }
+    requires settled { speaking (frees_of engine.now tree.now) ≡ true }
+    requires usable { HoldsUsable tree.now.rows events.old }
+    ensures closed { result ≡ closed_of events.old.upcoming.ring (let_go_by (next_of (frees_of engine.now tree.now)).0) }
+    ensures upcoming { events.new.upcoming ≡ without_left tree.now.rows (let_go_by (next_of (frees_of engine.now tree.now)).0) events.old.upcoming }
+    ensures kept { KeepsPlaces events.old events.new }
+    ensures contexts { KeepsContexts events.old events.new }
+{
+    let x = engine.lets_go(tree, refs)?;
+    events.let_go(x, tree)
 }
 
 impl ObjectPool {
@@ -148,11 +174,7 @@ impl ObjectPool {
         // Read for the prover: the contract of `len` says that the objects are a forest.
         let _rows = self.tree.len();
         self.ready = false;
-        // What lets go looks at the contexts as they are before the step.
-        let closed = match self.engine.lets_go(&self.tree, &self.refs) {
-            Some(x) => self.events.let_go(x, &self.tree),
-            None => None,
-        };
+        let closed = let_go_next(&self.engine, &self.tree, &self.refs, &mut self.events);
         let step = self.engine.step(&mut self.tree, &mut self.refs);
         count_step(&step, &self.tree, &mut self.sums);
         self.events.follow(&step);
