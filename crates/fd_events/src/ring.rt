@@ -138,10 +138,11 @@ impl Ring {
         ensures contexts { self.new.contexts ≡ with_context self.old.contexts c }
         ensures spare { self.new.spare ≡ self.old.spare }
     {
-        if self.lane.ends.get(c.0).is_none() {
-            self.lane.ends.add_lane(c.0);
-            self.changes = self.changes.and(&Change::Opens(c), &());
+        if self.lane.ends.get(c.0).is_some() {
+            return;
         }
+        self.lane.ends.add_lane(c.0);
+        self.changes = self.changes.and(&Change::Opens(c), &());
     }
 
     /// Adds an event that watches a descriptor in a context (`tevent_add_fd`), behind all others. What it watches for is

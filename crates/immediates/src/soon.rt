@@ -99,10 +99,11 @@ impl Soon {
         ensures contexts { self.new.contexts ≡ with_context self.old.contexts c }
         ensures spare { self.new.spare ≡ self.old.spare }
     {
-        if self.ends.get(c.0).is_none() {
-            self.ends.add_lane(c.0);
-            self.changes = self.changes.and(&Change::Opens(c), &());
+        if self.ends.get(c.0).is_some() {
+            return;
         }
+        self.ends.add_lane(c.0);
+        self.changes = self.changes.and(&Change::Opens(c), &());
     }
 
     /// Puts one that doesn't wait behind all others of a context.

@@ -5,16 +5,16 @@ use Rattle.timers.specs.Timetable.{Timetable}
 use Rattle.fd_events.specs.Rotation.{Rotation}
 
 -- one more context can be added without taking memory
-pub record HasSpareContext (soon : Waiting) (times : Timetable) (ring : Rotation) : Type 0 where
-  pub soon : 0 < soon.contexts_spare
-  pub times : 0 < times.contexts_spare
-  pub ring : 0 < ring.contexts_spare
+pub record HasSpareContext (s : Waiting) (t : Timetable) (r : Rotation) : Type 0 where
+  pub soon : 0 < s.contexts_spare
+  pub times : 0 < t.contexts_spare
+  pub ring : 0 < r.contexts_spare
 
 -- no fewer can be added
-pub record KeepsSpares (old_soon soon : Waiting) (old_times times : Timetable) (old_ring ring : Rotation) : Type 0 where
-  pub soon : old_soon.spare ≤ soon.spare
-  pub times : old_times.spare ≤ times.spare
-  pub ring : old_ring.spare ≤ ring.spare
-  pub soon_contexts : old_soon.contexts_spare ≤ soon.contexts_spare
-  pub times_contexts : old_times.contexts_spare ≤ times.contexts_spare
-  pub ring_contexts : old_ring.contexts_spare ≤ ring.contexts_spare
+pub record KeepsSpares (s s' : Waiting) (t t' : Timetable) (r r' : Rotation) : Type 0 where
+  pub soon : s.spare ≤ s'.spare
+  pub times : t.spare ≤ t'.spare
+  pub ring : r.spare ≤ r'.spare
+  pub soon_contexts : s.contexts_spare ≤ s'.contexts_spare
+  pub times_contexts : t.contexts_spare ≤ t'.contexts_spare
+  pub ring_contexts : r.contexts_spare ≤ r'.contexts_spare

@@ -8,4 +8,4 @@ pub invariant_of-self : goal.invariant_of-self
 invariant_of-self c =
     keeps-noted _ _ c.self.inside.changes.items c.and-self-inside.result.items (Opens c.args.c) c.and-self-inside.ensures
     (keeps-opened c.self.inside.lane c.self.inside.holders.pairs _ _ c.self.invariant c.args.c c.add_lane.new.self
-    (none _ (ap is_some (sym c.get.ensures) ∙ sym c.is_none.ensures ∙ c.if-is_none.true)) c.add_lane.ensures.lanes)
+    (none _ (ap is_some (sym c.get.ensures) ∙ sym c.is_some.ensures ∙ c.if-is_some.false)) c.add_lane.ensures.lanes)

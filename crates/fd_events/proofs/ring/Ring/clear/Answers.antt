@@ -9,10 +9,13 @@ loop-x-preserved c =
     let p = once-lost c.loop-x.self.watches c.args.c c.in-Some.x c.in-Some.ensures.events (sym c.in-Some.ensures.next) in
     let room = c.lose.ensures.spare in
     let before = c.loop-x.invariant.spare in
+    let lanes = c.lose.ensures.contexts_spare in
+    let lanes_before = c.loop-x.invariant.contexts_spare in
     record {
       all = ap (λ (ws : List Watch). ring_without ws c.args.c) c.lose.ensures.watches ∙ p.0 ∙ c.loop-x.invariant.all;
       contexts = c.lose.ensures.contexts ∙ c.loop-x.invariant.contexts;
       spare = omega (arith, room, before);
+      contexts_spare = omega (arith, lanes, lanes_before);
     }
 
 pub loop-x-smaller : goal.loop-x-smaller
