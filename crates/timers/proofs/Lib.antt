@@ -6,4 +6,6 @@ pub mod Sifting
 pub mod Holding
 pub mod Entering
 pub mod Leaving
+pub mod Noting
+pub mod Contexts
 pub mod ByObject
