@@ -1,5 +1,5 @@
 -- The times of one context among those of all.
-use Rattle.std.proofs.Common.{◌≡◌, ℕ, Bool, true, false, not, cond, nat_eq, List, [], ◌∷◌, length, drop, slice_get, Option, Some, None, is_some, refl, sym, ◌∙◌, ap, arith}
+use Rattle.std.proofs.Common.{◌≡◌, ℕ, zero, suc, ◌+◌, Bool, true, false, not, cond, nat_eq, List, [], ◌∷◌, length, drop, slice_get, Option, Some, None, is_some, IsTrue, refl, sym, ◌∙◌, ap, arith}
 use Rattle.std.proofs.lemmas.Bool.{eqb-true, eq-eqb}
 use Rattle.std.proofs.lemmas.Bool.Decides.{nat_tests}
 use Rattle.std.specs.List.{find, filter}
@@ -10,8 +10,10 @@ use Rattle.tree_specs.specs.Events.Pending.{is_armed, disarmed, comes_before, pu
 use Rattle.tree_specs.proofs.Tree.Numbered.{by_test, same-true, same-equal}
 use Rattle.tree_specs.proofs.Events.ContextLaws.{filter-filter, times-disarmed}
 use Rattle.timers.specs.Timetable.{NoneBefore, AreInOrder, AreOnce}
+use Rattle.timers.specs.Heaped.{sorted}
 use Rattle.timers.specs.Heaps.{context_in}
 use Rattle.timers.proofs.Comes.{nobody-gone, first-gone}
+use Rattle.timers.proofs.Sorted.{found-sorted}
 
 -- ---- some of the times
 
@@ -37,6 +39,14 @@ few-before p d (e ∷ es) n = by_test (p e) (λ t. rw t (n.0, few-before p d es 
 pub few-ordered : (p : Due → Bool) (ds : List Due) → AreInOrder ds → AreInOrder (filter p ds)
 few-ordered p [] a = tt
 few-ordered p (d ∷ ds) a = by_test (p d) (λ t. rw t (few-before p d ds a.0, few-ordered p ds a.1)) (λ t. rw t (few-ordered p ds a.1))
+
+-- one that has a time loses one
+pub length-gone : (ds : List Due) (x : Obj) → AreOnce ds → is_armed ds x ≡ true → length (disarmed ds x) + 1 ≡ length ds
+length-gone [] x a e = cc
+length-gone (d ∷ ds) x a e = by_test (same d.object x)
+    (λ t. let none : is_armed ds x ≡ false = ap (is_armed ds) (sym (same-true d.object x t)) ∙ a.0 in
+    let l = ap length (nobody-gone ds x none) in rw t (omega (arith, l)))
+    (λ t. let e' : is_armed ds x ≡ true = rw t at e in let ih = length-gone ds x a.1 e' in rw t (omega (arith, ih)))
 
 -- ---- one that is put in
 
@@ -99,6 +109,30 @@ context-left (d ∷ ds) x q = by_test (same d.object x)
     (λ w. w) in rw (u, n) refl)
     (λ u. rw u (context-left ds x q))))
 
+none-other : (ds : List Due) (c : Obj) → is_some (find (λ e. not (same e.context c)) (times_in ds c)) ≡ false
+none-other [] c = refl
+none-other (d ∷ ds) c = by_test (same d.context c) (λ t. rw t (rw t (none-other ds c))) (λ t. rw t (none-other ds c))
+
+not-found : (q : Due → Bool) (ds : List Due) (i : ℕ) (d : Due) → is_some (find q ds) ≡ false → slice_get ds i ≡ Some d → q d ≡ false
+not-found q [] i d n e = cc
+not-found q (f ∷ fs) zero d n e = by_test (q f)
+    (λ t. let bad : true ≡ false = rw t at n in cc)
+    (λ t. let fd : f ≡ d = cc in ap q (sym fd) ∙ t)
+not-found q (f ∷ fs) (suc i) d n e = by_test (q f)
+    (λ t. let bad : true ≡ false = rw t at n in cc)
+    (λ t. let n' : is_some (find q fs) ≡ false = rw t at n in not-found q fs i d n' e)
+
+-- each time of a heap is one of its context
+pub own-context : (ds dues : List Due) (c : Obj) → sorted ds ≡ times_in dues c → (i : ℕ) (d : Due) → slice_get ds i ≡ Some d → d.context.0 ≡ c.0
+own-context ds dues c told i d e =
+    let q = λ (f : Due). not (same f.context c) in
+    let none : is_some (find q ds) ≡ false = sym (found-sorted q ds) ∙ ap (λ (l : List Due). is_some (find q l)) told ∙ none-other dues c in
+    eqb-true d.context.0 c.0 (unnot (same d.context c) (not-found q ds i d none e))
+  where
+    unnot : (b : Bool) → not b ≡ false → b ≡ true
+    unnot true n = refl
+    unnot false n = cc
+
 -- ---- the first one of a context comes
 
 armed-first : (ds : List Due) (d : Due) → slice_get ds 0 ≡ Some d → is_armed ds d.object ≡ true
@@ -131,13 +165,15 @@ module _ (ds : List Due) (c : Obj) (d : Due) (a : AreOnce ds) (e : slice_get (ti
 
 -- ---- a context without times
 
-pub none-first : (ds : List Due) → slice_get ds 0 ≡ None → ds ≡ []
-none-first [] e = refl
-none-first (d ∷ ds) e = cc
-
 -- those of the others are all
 pub none-without : (ds : List Due) (c : Obj) → times_in ds c ≡ [] → times_without ds c ≡ ds
 none-without [] c e = refl
 none-without (d ∷ ds) c e = by_test (same d.context c)
     (λ t. let bad : d ∷ times_in ds c ≡ [] = rw t at e in cc)
     (λ t. let e' : times_in ds c ≡ [] = rw t at e in rw t (ap (λ (l : List Due). d ∷ l) (none-without ds c e')))
+
+pub none-told : (ds : List Due) (b : Bool) → not b ≡ is_some (slice_get ds 0) → (IsTrue b → ds ≡ []) × (ds ≡ [] → IsTrue b)
+none-told [] true e = (λ t. refl, λ n. refl)
+none-told [] false e = cc
+none-told (d ∷ ds) true e = cc
+none-told (d ∷ ds) false e = (λ t. cc, λ n. cc)

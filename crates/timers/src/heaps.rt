@@ -24,7 +24,7 @@ fn enter_other(others: &mut Arena<Vec<Due>>, places: &mut Arena<Place>, due: Due
     requires place { 0 < places.old.spare }
     requires can { CanEnter due (items_of (map.get others.old.pairs due.context.0)) places.old.pairs }
     ensures entered { IsEntered due (items_of (map.get others.old.pairs due.context.0)) (items_of (map.get others.new.pairs due.context.0)) places.old.pairs places.new.pairs }
-    ensures open { is_some (map.get others.new.pairs due.context.0) ≡ true }
+    ensures open { is_some (map.get others.new.pairs due.context.0) ≡ is_some (map.get others.old.pairs due.context.0) }
     ensures beside { (d : ℕ) → nat_eq due.context.0 d ≡ false → map.get others.new.pairs d ≡ map.get others.old.pairs d }
 {
     if let Some(dues) = others.get_mut(due.context.0) {
@@ -36,7 +36,7 @@ fn enter_other(others: &mut Arena<Vec<Due>>, places: &mut Arena<Place>, due: Due
 fn take_out_other(others: &mut Arena<Vec<Due>>, places: &mut Arena<Place>, place: Place)
     requires { CanLeave place (items_of (map.get others.old.pairs place.context)) places.old.pairs }
     ensures left { IsLeft place (items_of (map.get others.old.pairs place.context)) (items_of (map.get others.new.pairs place.context)) places.old.pairs places.new.pairs }
-    ensures open { is_some (map.get others.new.pairs place.context) ≡ true }
+    ensures open { is_some (map.get others.new.pairs place.context) ≡ is_some (map.get others.old.pairs place.context) }
     ensures beside { (d : ℕ) → nat_eq place.context d ≡ false → map.get others.new.pairs d ≡ map.get others.old.pairs d }
     ensures room { room_of (map.get others.old.pairs place.context) ≤ room_of (map.get others.new.pairs place.context) }
     ensures spare { places.new.spare ≡ places.old.spare }
@@ -125,7 +125,7 @@ impl Heaps {
         requires place { 0 < places.old.spare }
         requires can { CanEnter due (dues_in self.old due.context.0) places.old.pairs }
         ensures entered { IsEntered due (dues_in self.old due.context.0) (dues_in self.new due.context.0) places.old.pairs places.new.pairs }
-        ensures open { is_open self.new due.context.0 ≡ true }
+        ensures open { is_open self.new due.context.0 ≡ is_open self.old due.context.0 }
         ensures beside { (d : ℕ) → nat_eq due.context.0 d ≡ false → heap_of self.new d ≡ heap_of self.old d }
     {
         if due.context.0 == 0 {
@@ -139,7 +139,7 @@ impl Heaps {
     pub fn take_out(&mut self, places: &mut Arena<Place>, place: Place)
         requires { CanLeave place (dues_in self.old place.context) places.old.pairs }
         ensures left { IsLeft place (dues_in self.old place.context) (dues_in self.new place.context) places.old.pairs places.new.pairs }
-        ensures open { is_open self.new place.context ≡ true }
+        ensures open { is_open self.new place.context ≡ is_open self.old place.context }
         ensures beside { (d : ℕ) → nat_eq place.context d ≡ false → heap_of self.new d ≡ heap_of self.old d }
         ensures room { room_in self.old place.context ≤ room_in self.new place.context }
         ensures spare { places.new.spare ≡ places.old.spare }

@@ -1,7 +1,7 @@
 use Rattle.std.proofs.Common.{List, sym, ap, ◌∙◌}
 use Rattle.tree_specs.specs.declared.due.Due.{Due}
 use Rattle.tree_specs.specs.Events.Pending.{times_in, times_without}
-use Rattle.timers.proofs.Contexts.{first-here, first-elsewhere, none-first}
+use Rattle.timers.proofs.Contexts.{first-here, first-elsewhere}
 use Rattle.timers.proofs.times.Times.pop.Goals as goal
 
 pub returns-in-Some-clause-here : goal.returns-in-Some-clause-here
