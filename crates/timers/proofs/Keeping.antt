@@ -1,5 +1,5 @@
 -- What each change leaves of what is kept.
-use Rattle.std.proofs.Common.{◌≡◌, ◌≢◌, ℕ, ◌+◌, ◌<◌, ◌≤◌, Bool, true, false, cond, not, nat_eq, List, [], ◌∷◌, ◌++◌, length, slice_get, Option, Some, None, is_some, refl, sym, ap, subst, ◌∙◌, arith}
+use Rattle.std.proofs.Common.{◌≡◌, ℕ, ◌<◌, ◌≤◌, Bool, true, false, cond, not, nat_eq, List, [], ◌∷◌, ◌++◌, slice_get, Option, Some, None, is_some, refl, sym, ap, subst, ◌∙◌, arith}
 use Rattle.std.proofs.lemmas.Bool.{eqb-true, eq-eqb}
 use Rattle.std.proofs.lemmas.Option.{slice_get_within}
 use Rattle.std.specs.List.{find}
@@ -15,7 +15,7 @@ use Rattle.tree_specs.specs.declared.object.Obj.{Obj}
 use Rattle.tree_specs.specs.Words.Objects.{same, first_context}
 use Rattle.tree_specs.specs.Events.Pending.{is_armed, is_numbered, disarmed, put_in, times_in}
 use Rattle.tree_specs.specs.Events.Contexts.{has_context, without_context}
-use Rattle.tree_specs.proofs.Tree.Numbered.{by_test, same-true, same-equal}
+use Rattle.tree_specs.proofs.Tree.Numbered.{by_test, same-equal}
 use Rattle.tree_specs.proofs.Events.ContextLaws.{times-disarmed}
 use Rattle.tree_specs.proofs.Events.KnownContexts.{opened-kept, closed-kept, closed-first-kept}
 use Rattle.timers.specs.declared.change.Change.{Change}
@@ -24,7 +24,7 @@ use Rattle.timers.specs.declared.heaps.Heaps.{Heaps}
 use Rattle.timers.specs.Timetable.{AreOnce}
 use Rattle.timers.specs.Changes.{changed, recontexted, dues_of, contexts_of}
 use Rattle.timers.specs.Heaped.{sorted, by_number, IsKept}
-use Rattle.timers.specs.Heaps.{numbered, context_of, index_in, context_at, at_in, heap_of, items_of, room_of, dues_in, room_in, is_open, spare_by, context_in, IsAdded, CanEnter, IsEntered, CanLeave, IsLeft, AreKept, HasRoom}
+use Rattle.timers.specs.Heaps.{numbered, context_of, index_in, at_in, heap_of, items_of, room_of, dues_in, room_in, is_open, spare_by, context_in, IsAdded, CanEnter, IsEntered, CanLeave, IsLeft, AreKept, HasRoom}
 use Rattle.timers.proofs.Comes.{order-put, length-put, once-put, once-rest, gone-alone, nobody-gone}
 use Rattle.timers.proofs.Sorted.{found-sorted, once-sorted}
 use Rattle.timers.proofs.Places.{same-places}

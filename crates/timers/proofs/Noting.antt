@@ -1,12 +1,12 @@
 -- What a write of one place leaves of the places in each heap.
 use Rattle.std.proofs.Common.{◌≡◌, ℕ, true, false, cond, nat_eq, Option, Some, None, IsSome, is_some, refl, sym, ap, ◌∙◌}
-use Rattle.std.proofs.lemmas.Bool.{eqb-true, eq-eqb}
+use Rattle.std.proofs.lemmas.Bool.{eqb-true}
 use Rattle.std.specs.Option.{option_map, option_and_then}
 use Rattle.std.specs.Ordering.{nat_cmp}
 use Rattle.std.specs.FinMap as map
 use Rattle.tree_specs.proofs.Tree.Numbered.{by_test}
 use Rattle.timers.specs.declared.heap.Place.{Place}
-use Rattle.timers.specs.Heaps.{context_of, index_in, moved_to, context_at, at_in, IsNoted, IsSameBeside}
+use Rattle.timers.specs.Heaps.{context_of, index_in, moved_to, at_in, IsNoted, IsSameBeside}
 
 abbrev pub Noted : Type 0
 Noted = map.FinMap nat_cmp Place

@@ -6,7 +6,6 @@ use Rattle.pool_arena.proofs.Keeps.{get-with_entry}
 use Rattle.pool_arena.proofs.Steps.{len-new}
 use Rattle.tree_specs.specs.declared.due.Due.{Due}
 use Rattle.tree_specs.proofs.Tree.Numbered.{by_test}
-use Rattle.timers.specs.declared.heap.Place.{Place}
 use Rattle.timers.specs.Heaped.{Rises, Places, Told, IsSettled, Reorders, with_place}
 use Rattle.timers.specs.Heaps.{context_of, index_in, context_at, at_in, CanEnter, IsEntered, IsSameBeside}
 use Rattle.timers.proofs.Sorted.{told-more, told-append, sorted-append}

@@ -1,7 +1,7 @@
-use Rattle.std.proofs.Common.{List, slice_get, subst, sym, ap, ◌∙◌}
+use Rattle.std.proofs.Common.{List, slice_get, ap, ◌∙◌}
 use Rattle.tree_specs.specs.declared.due.Due.{Due}
 use Rattle.tree_specs.specs.Events.Pending.{times_in}
-use Rattle.timers.specs.Timetable.{Timetable, AreOnce}
+use Rattle.timers.specs.Timetable.{Timetable}
 use Rattle.timers.specs.Heaped.{by_number}
 use Rattle.timers.specs.Heaps.{dues_in}
 use Rattle.timers.proofs.Holding.{top-same}

@@ -1,7 +1,7 @@
 use Rattle.std.proofs.Common.{List, sym, subst}
 use Rattle.timers.specs.declared.change.Change.{Change}
 use Rattle.timers.specs.Changes.{dues_of, contexts_of}
-use Rattle.timers.specs.Heaps.{dues_in, is_open, AreKept, HasRoom}
+use Rattle.timers.specs.Heaps.{dues_in, is_open, AreKept}
 use Rattle.timers.proofs.Keeping.{keeps-new}
 use Rattle.timers.proofs.times.Times.new.Goals as goal
 
