@@ -1,9 +1,9 @@
 -- What holds of the lanes, in other words and with other nodes.
-use Rattle.std.proofs.Common.{◌≡◌, ℕ, ◌-◌, ◌^◌, ◌<◌, true, false, cond, nat_eq, List, ◌∷◌, Option, Some, None, refl, sym, ap, subst, ◌∙◌}
+use Rattle.std.proofs.Common.{◌≡◌, ℕ, true, nat_eq, List, Option, None, refl, sym, ap, subst, ◌∙◌}
 use Rattle.std.proofs.lemmas.Bool.{eqb-true}
 use Rattle.linked_lanes.specs.declared.Sides.{Sides}
 use Rattle.linked_lanes.specs.declared.lane.Extent.{Extent}
-use Rattle.linked_lanes.specs.Lane.{has, is_at, without}
+use Rattle.linked_lanes.specs.Lane.{has}
 use Rattle.linked_lanes.specs.Family.{Family}
 use Rattle.linked_lanes.proofs.Lanes.{by_test, without-absent}
 use Rattle.linked_lanes.proofs.Chains.{kept_chain}
@@ -12,7 +12,7 @@ use Rattle.pool_arena.specs.Arena.{Held}
 use Rattle.std.specs.FinMap as map
 use Rattle.fd_events.specs.declared.node.Node.{Node}
 use Rattle.fd_events.specs.declared.lane.Lane.{Lane}
-use Rattle.fd_events.specs.Linked.{sides_at, stamp_at, placed, lanes_joined, lanes_left, HasStampsLeft, FallFrom, IsLane}
+use Rattle.fd_events.specs.Linked.{sides_at, stamp_at, placed, lanes_joined, lanes_left, FallFrom, IsLane}
 use Rattle.fd_events.proofs.Stamps.{fall-same}
 
 -- the neighbours of those that stand in a lane are the same

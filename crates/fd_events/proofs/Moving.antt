@@ -1,5 +1,5 @@
 -- What leaving a lane in place and joining it leave of all lanes.
-use Rattle.std.proofs.Common.{◌≡◌, ℕ, ◌+◌, ◌-◌, ◌^◌, ◌<◌, Bool, true, false, cond, nat_eq, List, ◌∷◌, Option, Some, None, is_some, refl, sym, ap, ◌∙◌, arith}
+use Rattle.std.proofs.Common.{◌≡◌, ℕ, ◌-◌, ◌^◌, ◌<◌, Bool, true, false, cond, nat_eq, List, Option, Some, None, is_some, refl, sym, ap, ◌∙◌, arith}
 use Rattle.std.proofs.lemmas.Bool.{eqb-true}
 use Rattle.std.specs.Option.{option_map}
 use Rattle.std.specs.FinMap as map
@@ -11,13 +11,13 @@ use Rattle.linked_lanes.specs.declared.Link.TheVariants.{Newer, Older}
 use Rattle.linked_lanes.specs.Lane.{has, is_at, without}
 use Rattle.linked_lanes.specs.Chain.{noted}
 use Rattle.linked_lanes.specs.Family.{Family, joined_by, left_by}
-use Rattle.linked_lanes.proofs.Lanes.{by_test, not_both, false_by, eqb-self}
+use Rattle.linked_lanes.proofs.Lanes.{by_test, not_both, false_by}
 use Rattle.linked_lanes.proofs.Chains.{newer_as, older_as, stays}
 use Rattle.linked_lanes.proofs.Families.{left-family, joined-family, stands_nowhere}
 use Rattle.lane_ends.specs.Lanes.{Ends, Lanes}
 use Rattle.fd_events.specs.declared.node.Node.{Node}
 use Rattle.fd_events.specs.declared.lane.Lane.{Lane}
-use Rattle.fd_events.specs.Linked.{sides_at, stamp_at, is_there, placed, lanes_joined, lanes_left, HasStampsLeft, FallFrom, IsLane}
+use Rattle.fd_events.specs.Linked.{sides_at, stamp_at, is_there, placed, lanes_joined, lanes_left, FallFrom, IsLane}
 use Rattle.fd_events.proofs.Nodes.{there-sides, there-stamp}
 use Rattle.fd_events.proofs.Stamps.{fall-below, fall-same, fall-without, fall-joined}
 use Rattle.fd_events.proofs.Lanes.{family-nodes}

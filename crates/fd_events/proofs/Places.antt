@@ -1,5 +1,5 @@
 -- The rotation of one context, as the fields tell it.
-use Rattle.std.proofs.Common.{◌≡◌, ℕ, true, false, List, [], ◌∷◌, ◌++◌, length, Option, Some, None, is_some, slice_get, refl, sym, ap, ◌∙◌}
+use Rattle.std.proofs.Common.{◌≡◌, ℕ, true, false, List, [], ◌∷◌, length, Option, Some, None, is_some, slice_get, refl, sym, ap, ◌∙◌}
 use Rattle.std.specs.Option.{option_map}
 use Rattle.std.proofs.lemmas.Bool.{eqb-true}
 use Rattle.std.specs.FinMap as map
@@ -9,7 +9,7 @@ use Rattle.tree_specs.specs.Words.Objects.{is_same}
 use Rattle.tree_specs.specs.Events.Rotation.{watch_of, ring_in}
 use Rattle.linked_lanes.specs.declared.Sides.{Sides}
 use Rattle.linked_lanes.specs.declared.lane.Extent.{Extent}
-use Rattle.linked_lanes.specs.Lane.{has, last, before}
+use Rattle.linked_lanes.specs.Lane.{has, last}
 use Rattle.linked_lanes.proofs.Families.{unknown-empty, found-sides}
 use Rattle.fd_events.specs.declared.node.Node.{Node}
 use Rattle.fd_events.specs.declared.lane.Lane.{Lane}

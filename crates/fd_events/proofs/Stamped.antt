@@ -1,5 +1,5 @@
 -- What the fields tell of the events of a context whose descriptors are ready.
-use Rattle.std.proofs.Common.{◌≡◌, ℕ, suc, ◌<◌, true, false, nat_eq, if◌then◌else◌, List, [], length, take, get_or, Option, Some, None, refl, sym, ap, subst, ◌∙◌}
+use Rattle.std.proofs.Common.{◌≡◌, ℕ, suc, ◌<◌, true, nat_eq, List, [], length, take, get_or, Option, Some, None, refl, sym, ap, subst, ◌∙◌}
 use Rattle.std.specs.List.{find}
 use Rattle.std.specs.Option.{option_map, option_and_then}
 use Rattle.std.specs.FinMap as map
@@ -21,7 +21,7 @@ use Rattle.fd_events.proofs.Rings.{watch_in, listed-numbers}
 use Rattle.fd_events.proofs.Stamps.{RiseFrom, or_zero, stamp_in, fall-rise}
 use Rattle.fd_events.proofs.Keeping.{Holders}
 use Rattle.fd_events.proofs.Growing.{new-one, one-more-ready}
-use Rattle.fd_events.proofs.Soonest.{coming_of, one_coming, first_coming, one-more}
+use Rattle.fd_events.proofs.Soonest.{one_coming, first_coming, one-more}
 
 abbrev pub stamp_by : Lane → Watch → ℕ
 stamp_by l w = stamp_in (stamp_at l.nodes.pairs) w

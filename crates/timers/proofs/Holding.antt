@@ -89,7 +89,7 @@ pub sorted-none : (ds : List Due) → sorted ds ≡ [] → ds ≡ []
 sorted-none [] e = refl
 sorted-none (d ∷ ds) e = let l = length-sorted (d ∷ ds) in let n : length (sorted (d ∷ ds)) ≡ 0 = ap length e in absurd (omega (arith, l, n))
 
--- none is told by their number
-pub none-sorted : (ds : List Due) (b : Bool) → b ≡ (length ds == 0) → (IsTrue b → ds ≡ []) × (sorted ds ≡ [] → IsTrue b)
-none-sorted [] b e = (λ t. refl, λ n. e)
-none-sorted (d ∷ ds) b e = (λ t. let bad : suc (length ds) ≡ 0 = eqb-true (suc (length ds)) 0 (sym e ∙ t) in absurd (omega (arith, bad)), λ n. let bad = sorted-none (d ∷ ds) n in cc)
+-- the first of the heap is the first of all
+pub top-same : (N : ℕ → Option Due) (ds : List Due) → IsHeap (slice_get ds) → Told N ds → slice_get ds 0 ≡ slice_get (sorted ds) 0
+top-same N [] h t = refl
+top-same N (d ∷ ds) h t = sym (top-first N (d ∷ ds) d h t refl)

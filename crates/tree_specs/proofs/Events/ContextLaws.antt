@@ -13,7 +13,7 @@ use Rattle.tree_specs.proofs.Tree.Numbered.{by_test, same-true, same-equal}
 
 -- ---- lists
 
-filter-filter : {A : Type 0} (p q : A → Bool) (xs : List A) → filter p (filter q xs) ≡ filter q (filter p xs)
+pub filter-filter : {A : Type 0} (p q : A → Bool) (xs : List A) → filter p (filter q xs) ≡ filter q (filter p xs)
 filter-filter p q [] = refl
 filter-filter p q (x ∷ xs) =
     let ih = filter-filter p q xs in

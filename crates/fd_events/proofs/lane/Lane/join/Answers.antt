@@ -1,4 +1,4 @@
-use Rattle.std.proofs.Common.{ℕ, List, Option, ap, ◌∙◌, subst, sym}
+use Rattle.std.proofs.Common.{Option, subst, sym}
 use Rattle.tree_specs.specs.declared.object.Obj.{Obj}
 use Rattle.std.specs.Option.{option_map}
 use Rattle.std.specs.FinMap as map

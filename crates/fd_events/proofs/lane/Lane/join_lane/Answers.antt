@@ -1,6 +1,6 @@
-use Rattle.std.proofs.Common.{◌≡◌, ℕ, cond, nat_eq, List, Some, None, is_some, refl, sym, ap, ◌∙◌, arith}
+use Rattle.std.proofs.Common.{◌≡◌, Some, is_some, sym, ap, ◌∙◌, arith}
 use Rattle.std.specs.FinMap as map
-use Rattle.fd_events.specs.Linked.{sides_at, stamp_at, IsLane, placed, lanes_joined}
+use Rattle.fd_events.specs.Linked.{sides_at, stamp_at}
 use Rattle.fd_events.proofs.Moving.{joins, open-set}
 use Rattle.fd_events.proofs.lane.Lane.join_lane.Goals as goal
 

@@ -1,5 +1,4 @@
-use Rattle.std.proofs.Common.{ap, ◌∙◌, subst, sym}
-use Rattle.tree_specs.specs.declared.object.Obj.{Obj}
+use Rattle.std.proofs.Common.{ap, ◌∙◌, subst}
 use Rattle.std.specs.Option.{option_map}
 use Rattle.fd_events.specs.Linked.{number_of, HasSome, OnContext}
 use Rattle.fd_events.proofs.Lanes.{lane-out}

@@ -1,6 +1,6 @@
-use Rattle.std.proofs.Common.{◌≡◌, ℕ, cond, nat_eq, List, Some, None, is_some, refl, sym, ap, ◌∙◌, arith}
+use Rattle.std.proofs.Common.{◌≡◌, Some, is_some, sym, ap, ◌∙◌}
 use Rattle.std.specs.FinMap as map
-use Rattle.fd_events.specs.Linked.{sides_at, IsLane, placed, lanes_left}
+use Rattle.fd_events.specs.Linked.{sides_at}
 use Rattle.fd_events.proofs.Moving.{leaves, open-set}
 use Rattle.fd_events.proofs.lane.Lane.leave_lane.Goals as goal
 

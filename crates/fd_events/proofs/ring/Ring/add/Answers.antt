@@ -1,4 +1,4 @@
-use Rattle.std.proofs.Common.{◌≡◌, ℕ, ◌+◌, false, true, Some, None, cond, nat_eq, ap, ◌∙◌}
+use Rattle.std.proofs.Common.{ℕ, Some, cond, nat_eq, ap, ◌∙◌}
 use Rattle.std.specs.FinMap as map
 use Rattle.pool_arena.proofs.Keeps.{get-with_entry}
 use Rattle.pool_arena.proofs.Steps.{len-new}
@@ -6,8 +6,6 @@ use Rattle.tree_specs.specs.Events.Rotation.{is_watching, is_watched}
 use Rattle.fd_events.specs.declared.change.Change.TheVariants.{Joins}
 use Rattle.tree_specs.specs.Events.Contexts.{has_context}
 use Rattle.fd_events.specs.Rotation.{Rotation}
-use Rattle.fd_events.specs.Changes.{watches_of, contexts_of}
-use Rattle.fd_events.specs.Linked.{watching}
 use Rattle.fd_events.proofs.Keeping.{none-there, has-fewer, keeps-added, keeps-noted}
 use Rattle.fd_events.proofs.ring.Ring.add.Goals as goal
 

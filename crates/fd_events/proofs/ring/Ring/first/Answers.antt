@@ -1,6 +1,4 @@
-use Rattle.std.proofs.Common.{◌≡◌, Some, sym, ap, ◌∙◌}
-use Rattle.std.specs.Option.{option_map}
-use Rattle.tree_specs.specs.Events.Rotation.{ring_in}
+use Rattle.std.proofs.Common.{sym, ◌∙◌}
 use Rattle.fd_events.proofs.Losing.{first-watch-of}
 use Rattle.fd_events.proofs.ring.Ring.first.Goals as goal
 

@@ -1,4 +1,4 @@
-use Rattle.std.proofs.Common.{◌≡◌, None, Some, is_some, sym, ap, refl, ◌∙◌}
+use Rattle.std.proofs.Common.{◌≡◌, None, Some, is_some, sym, ap, ◌∙◌}
 use Rattle.std.specs.FinMap as map
 use Rattle.std.specs.Option.{option_map}
 use Rattle.tree_specs.specs.Events.Rotation.{watch_of, unwatched, behind_all, lost}

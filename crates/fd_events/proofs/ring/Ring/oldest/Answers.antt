@@ -1,6 +1,5 @@
-use Rattle.std.proofs.Common.{◌≡◌, Option, None, Some, slice_get, subst, sym, ap, ◌∙◌}
+use Rattle.std.proofs.Common.{slice_get, sym, ap, ◌∙◌}
 use Rattle.std.specs.Option.{option_map}
-use Rattle.tree_specs.specs.declared.object.Obj.{Obj}
 use Rattle.tree_specs.specs.Events.Rotation.{ring_in}
 use Rattle.fd_events.specs.Rotation.{Rotation, object_of}
 use Rattle.fd_events.specs.Linked.{from_on}

@@ -1,4 +1,4 @@
-use Rattle.std.proofs.Common.{◌≡◌, Some, ◌∷◌, [], refl, sym, ap, subst, ◌∙◌}
+use Rattle.std.proofs.Common.{◌≡◌, Some, ◌∷◌, [], sym, subst, ◌∙◌}
 use Rattle.std.specs.Option.{option_map}
 use Rattle.tree_specs.specs.Events.Rotation.{ring_in}
 use Rattle.fd_events.specs.Rotation.{Rotation}

@@ -1,14 +1,12 @@
-use Rattle.std.proofs.Common.{◌≡◌, ◌++◌, ◌∷◌, [], List, None, Some, is_some, sym, ap, subst, refl, ◌∙◌}
+use Rattle.std.proofs.Common.{◌≡◌, None, Some, is_some, sym, ap, ◌∙◌}
 use Rattle.std.specs.FinMap as map
 use Rattle.std.specs.Option.{option_map}
-use Rattle.tree_specs.specs.declared.watch.Watch.{Watch}
 use Rattle.tree_specs.specs.Events.Rotation.{watch_of, unwatched, behind_all}
 use Rattle.fd_events.specs.declared.change.Change.TheVariants.{Turns}
 use Rattle.fd_events.specs.Rotation.{Rotation}
-use Rattle.fd_events.specs.Changes.{watches_of, contexts_of}
-use Rattle.fd_events.specs.Linked.{watching, context_in, lane_in, IsKept}
+use Rattle.fd_events.specs.Linked.{watching}
 use Rattle.fd_events.proofs.Holding.{unwatched-none}
-use Rattle.fd_events.proofs.Keeping.{has-some, fewer-left, watch-there, context-there, sides-there, keeps-turned, keeps-noted, left-by}
+use Rattle.fd_events.proofs.Keeping.{has-some, fewer-left, keeps-turned, keeps-noted, left-by}
 use Rattle.fd_events.proofs.ring.Ring.turn_back.Goals as goal
 
 pub leave-requires : goal.leave-requires

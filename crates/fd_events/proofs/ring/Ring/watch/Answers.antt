@@ -1,4 +1,4 @@
-use Rattle.std.proofs.Common.{Some, sym, ap, ◌∙◌}
+use Rattle.std.proofs.Common.{Some, ap, ◌∙◌}
 use Rattle.std.specs.Option.{option_map}
 use Rattle.tree_specs.specs.Events.Rotation.{watch_of}
 use Rattle.fd_events.specs.Rotation.{Rotation}
