@@ -271,12 +271,12 @@ module _ (h : Heaps) (m : Noted) (dues : List Due) (contexts : List Obj) (k : Ar
       known = λ d. opened-kept (heap_of h) (heap_of h') contexts (λ e. k.known e.0) c a.heap a.heaps (numbered d);
     }
 
-    pub room-opened : (spare : ℕ) (filled : Option ℕ) → HasRoom (room_in h) (is_open h) spare filled → HasRoom (room_in h') (is_open h') spare filled
-    room-opened spare filled r = record {
+    pub room-opened : (spare : ℕ) → HasRoom (room_in h) (is_open h) spare None → HasRoom (room_in h') (is_open h') spare (Some c.0)
+    room-opened spare r = record {
       heaps = λ d o ne. subst (λ u. 0 < room_of u) (sym (a.heaps d)) (by_test (nat_eq c.0 d)
-          (λ t. rw t a.room)
-          (λ t. rw t (r.heaps d (sym (ap (λ b. is_some (cond b (Some a.heap) (heap_of h d))) t) ∙ sym (ap is_some (a.heaps d)) ∙ o) ne)));
-      place = r.place;
+          (λ t. absurd (ne (ap Some (eqb-true c.0 d t))))
+          (λ t. rw t (r.heaps d (sym (ap (λ b. is_some (cond b (Some a.heap) (heap_of h d))) t) ∙ sym (ap is_some (a.heaps d)) ∙ o) (λ u. cc))));
+      place = λ u. cc;
     }
 
   -- ---- a context that is dropped

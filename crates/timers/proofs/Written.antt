@@ -45,11 +45,10 @@ module _ (h : Heaps) (c : ℕ) (none : heap_of h c ≡ None) where
   other : nat_eq c 0 ≡ false
   other = by_test (nat_eq c 0) (λ t. let bad : Some h.first ≡ None = sym (ap (λ b. cond b (Some h.first) (map.get h.others.pairs c)) t) ∙ none in cc) (λ t. t)
 
-  pub added : (k : Heaps) (m : map.FinMap nat_cmp (Vec Due)) (v : Vec Due) → k.first ≡ h.first → k.others.pairs ≡ map.insert m c v → m ≡ h.others.pairs → v.items ≡ [] → vec_len v < vec_capacity v → IsAdded h k c
-  added k m v first others before empty room = record {
+  pub added : (k : Heaps) (v : Vec Due) → k.first ≡ h.first → k.others.pairs ≡ map.insert h.others.pairs c v → v.items ≡ [] → IsAdded h k c
+  added k v first others empty = record {
     heap = v;
     empty = empty;
-    room = room-one v room;
     heaps = λ d. by_test (nat_eq c d)
         (λ t. let off : nat_eq d 0 ≡ false = ap (λ (x : ℕ). nat_eq x 0) (sym (eqb-true c d t)) ∙ other in
         ap (λ b. cond b (Some k.first) (map.get k.others.pairs d)) off ∙ at d ∙ rw t refl)
@@ -57,4 +56,4 @@ module _ (h : Heaps) (c : ℕ) (none : heap_of h c ≡ None) where
   }
     where
       at : (d : ℕ) → map.get k.others.pairs d ≡ cond (nat_eq c d) (Some v) (map.get h.others.pairs d)
-      at d = ap (λ (n : map.FinMap nat_cmp (Vec Due)). map.get n d) others ∙ get-with_entry m c (Some v) d ∙ ap (λ (n : map.FinMap nat_cmp (Vec Due)). cond (nat_eq c d) (Some v) (map.get n d)) before
+      at d = ap (λ (n : map.FinMap nat_cmp (Vec Due)). map.get n d) others ∙ get-with_entry h.others.pairs c (Some v) d

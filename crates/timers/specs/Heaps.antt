@@ -72,11 +72,10 @@ room_in h c = room_of (heap_of h c)
 abbrev pub is_open : Heaps → ℕ → Bool
 is_open h c = is_some (heap_of h c)
 
--- a heap with nothing in it is added, and has room
+-- a heap with nothing in it is added
 pub record IsAdded (h k : Heaps) (c : ℕ) : Type 0 where
   pub heap : Vec Due
   pub empty : heap.items ≡ []
-  pub room : 0 < room_of (Some heap)
   pub heaps : (d : ℕ) → heap_of k d ≡ cond (nat_eq c d) (Some heap) (heap_of h d)
 
 -- ---- one time that enters a heap, or leaves it

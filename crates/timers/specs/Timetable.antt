@@ -11,6 +11,8 @@ pub record Timetable : Type 0 where
   pub contexts : List Obj
   -- so many can be added without taking memory, in whatever context
   pub spare : ℕ
+  -- so many contexts can be added without taking memory
+  pub contexts_spare : ℕ
 
 -- none of these comes before it
 abbrev pub NoneBefore : Due → List Due → Type 0

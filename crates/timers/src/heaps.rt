@@ -1,6 +1,6 @@
 //! The heaps of all contexts, each under the number of its context. That of the first context, which has the number 0,
 //! stands in place, so that whoever needs no other one looks nothing up and takes no memory for it.
-ghost use Rattle.std.specs.Prelude.{◌≡◌, ◌<◌, ◌≤◌, ℕ, [], false, true, nat_eq, None, OnOk, OnErr, is_some, length, option_copied, slice_get, vec_capacity, vec_len};
+ghost use Rattle.std.specs.Prelude.{◌≡◌, ◌<◌, ◌≤◌, ℕ, [], false, true, nat_eq, None, OnOk, is_some, length, option_copied, slice_get, vec_capacity, vec_len};
 ghost use Rattle.std.specs.FinMap as map;
 ghost use Rattle.timers.specs.Heaps.{CanEnter, CanLeave, IsAdded, IsEntered, IsLeft, dues_in, heap_of, is_open, items_of, room_in, room_of};
 
@@ -26,6 +26,7 @@ fn enter_other(others: &mut Arena<Vec<Due>>, places: &mut Arena<Place>, due: Due
     ensures entered { IsEntered due (items_of (map.get others.old.pairs due.context.0)) (items_of (map.get others.new.pairs due.context.0)) places.old.pairs places.new.pairs }
     ensures open { is_some (map.get others.new.pairs due.context.0) ≡ is_some (map.get others.old.pairs due.context.0) }
     ensures beside { (d : ℕ) → nat_eq due.context.0 d ≡ false → map.get others.new.pairs d ≡ map.get others.old.pairs d }
+    ensures spare { others.new.spare ≡ others.old.spare }
 {
     if let Some(dues) = others.get_mut(due.context.0) {
         enter(dues, places, due);
@@ -40,6 +41,7 @@ fn take_out_other(others: &mut Arena<Vec<Due>>, places: &mut Arena<Place>, place
     ensures beside { (d : ℕ) → nat_eq place.context d ≡ false → map.get others.new.pairs d ≡ map.get others.old.pairs d }
     ensures room { room_of (map.get others.old.pairs place.context) ≤ room_of (map.get others.new.pairs place.context) }
     ensures spare { places.new.spare ≡ places.old.spare }
+    ensures heaps_spare { others.new.spare ≡ others.old.spare }
 {
     if let Some(dues) = others.get_mut(place.context) {
         take_out(dues, places, place);
@@ -66,6 +68,7 @@ fn make_room_other(others: &mut Arena<Vec<Due>>, c: u64) -> Result<(), AllocErro
     ensures open { (d : ℕ) → is_some (map.get others.new.pairs d) ≡ is_some (map.get others.old.pairs d) }
     ensures kept { (d : ℕ) → room_of (map.get others.old.pairs d) ≤ room_of (map.get others.new.pairs d) }
     ensures room { OnOk result (is_some (map.get others.old.pairs c) ≡ true → 0 < room_of (map.get others.new.pairs c)) }
+    ensures spare { others.new.spare ≡ others.old.spare }
 {
     match others.get_mut(c) {
         None => Ok(()),
@@ -127,6 +130,7 @@ impl Heaps {
         ensures entered { IsEntered due (dues_in self.old due.context.0) (dues_in self.new due.context.0) places.old.pairs places.new.pairs }
         ensures open { is_open self.new due.context.0 ≡ is_open self.old due.context.0 }
         ensures beside { (d : ℕ) → nat_eq due.context.0 d ≡ false → heap_of self.new d ≡ heap_of self.old d }
+        ensures heaps_spare { self.new.others.spare ≡ self.old.others.spare }
     {
         if due.context.0 == 0 {
             enter(&mut self.first, places, due);
@@ -143,6 +147,7 @@ impl Heaps {
         ensures beside { (d : ℕ) → nat_eq place.context d ≡ false → heap_of self.new d ≡ heap_of self.old d }
         ensures room { room_in self.old place.context ≤ room_in self.new place.context }
         ensures spare { places.new.spare ≡ places.old.spare }
+        ensures heaps_spare { self.new.others.spare ≡ self.old.others.spare }
     {
         if place.context == 0 {
             take_out(&mut self.first, places, place);
@@ -158,6 +163,7 @@ impl Heaps {
         ensures open { (d : ℕ) → is_open self.new d ≡ is_open self.old d }
         ensures kept { (d : ℕ) → room_in self.old d ≤ room_in self.new d }
         ensures room { OnOk result (is_open self.old c ≡ true → 0 < room_in self.new c) }
+        ensures heaps_spare { self.new.others.spare ≡ self.old.others.spare }
     {
         if c == 0 {
             return make_room(&mut self.first);
@@ -165,22 +171,31 @@ impl Heaps {
         make_room_other(&mut self.others, c)
     }
 
-    /// Adds the heap of a context, with room for one time. If memory runs out, the heaps are as they were.
-    pub fn add(&mut self, c: u64) -> Result<(), AllocError>
-        requires { heap_of self.old c ≡ None }
-        ensures added { OnOk result (IsAdded self.old self.new c) }
-        ensures kept { OnErr result ((d : ℕ) → heap_of self.new d ≡ heap_of self.old d) }
+    /// Takes memory for one more heap, in which there is nothing. If memory runs out, the heaps are as they were.
+    pub fn reserve_heap(&mut self) -> Result<(), AllocError>
+        ensures first { self.new.first ≡ self.old.first }
+        ensures others { self.new.others.pairs ≡ self.old.others.pairs }
+        ensures spare { OnOk result (0 < self.new.others.spare) }
+        ensures kept { self.old.others.spare ≤ self.new.others.spare }
     {
-        self.others.reserve(1)?;
-        let dues = Vec::with_capacity(*self.first.allocator(), 1)?;
+        self.others.reserve(1)
+    }
+
+    /// Adds the heap of a context. There is nothing in it, and no room yet.
+    pub fn add(&mut self, c: u64)
+        requires room { 0 < self.old.others.spare }
+        requires vacant { heap_of self.old c ≡ None }
+        ensures { IsAdded self.old self.new c }
+    {
+        let dues = Vec::new(*self.first.allocator());
         self.others.add(c, dues);
-        Ok(())
     }
 
     /// Drops the heap of a context. That of the first context stays.
     pub fn drop(&mut self, c: u64)
         ensures first { self.new.first ≡ self.old.first }
         ensures others { self.new.others.pairs ≡ map.remove self.old.others.pairs c }
+        ensures spare { self.old.others.spare ≤ self.new.others.spare }
     {
         self.others.take(c);
     }

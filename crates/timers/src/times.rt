@@ -17,16 +17,16 @@ use tree_specs::{Due, Memory, Obj};
 
 /// The objects whose time comes: timers, and requests with an end time. Contracts see the list of them with their contexts,
 /// in the order of time and then number; the contexts that were added beside the first one, which always is there and has
-/// the number 0; and spare, which is 1 where one more can be added without taking memory, in whatever context. Only
-/// `reserve` and `add_context` take memory.
+/// the number 0; spare, which is 1 where one more can be added without taking memory, in whatever context; and for how many
+/// more contexts there is memory. Only `reserve` and `reserve_context` take memory.
 #[derive(Drop)]
 pub struct Times {
     /// The times of each context.
     heaps: Heaps,
     /// The place of each time, under the number of its object.
     places: Arena<Place>,
-    /// The context in which a time was added since memory was last taken. The heap of each other one has room for one more;
-    /// where there is none, so have the places.
+    /// The context that was added, or in which a time was added, since memory was last taken. The heap of each other one has
+    /// room for one more; where there is none, so have the places.
     filled: Option<u64>,
     /// What has become of them, and of the contexts. Only proofs read it, and it takes no memory.
     changes: Log<Change, ()>,
@@ -40,13 +40,13 @@ impl Model for Times {
     ghost use Rattle.timers.specs.Changes.{dues_of, contexts_of};
     ghost use Rattle.timers.specs.Heaps.{dues_in, is_open, room_in, spare_by, AreKept, HasRoom};
 
-    ghost view = { λ t. record { dues = dues_of t.changes.items; contexts = contexts_of t.changes.items; spare = spare_by t.filled } };
+    ghost view = { λ t. record { dues = dues_of t.changes.items; contexts = contexts_of t.changes.items; spare = spare_by t.filled; contexts_spare = t.heaps.others.spare } };
 
     ghost invariant = { λ t. AreKept (dues_in t.heaps) (is_open t.heaps) t.places.pairs (dues_of t.changes.items) (contexts_of t.changes.items) × HasRoom (room_in t.heaps) (is_open t.heaps) t.places.spare t.filled };
 }
 
 impl Times {
-    ghost use Rattle.std.specs.Prelude.{◌<◌, ◌≤◌, ◌↔◌, [], IsTrue, OnOk, OnErr, length, slice_get, drop, false, true};
+    ghost use Rattle.std.specs.Prelude.{◌<◌, ◌≤◌, ◌↔◌, [], IsTrue, OnOk, length, slice_get, drop, false, true};
     ghost use Rattle.tree_specs.specs.Events.Pending.{armed, disarmed, is_armed, is_numbered, put_in, times_in, times_without};
     ghost use Rattle.tree_specs.specs.Events.Contexts.{has_context, with_context, without_context};
     ghost use Rattle.timers.specs.Timetable.{AreInOrder, AreOnce, left_after};
@@ -70,6 +70,7 @@ impl Times {
         ensures contexts { self.new.contexts ≡ self.old.contexts }
         ensures spare { OnOk result (0 < self.new.spare) }
         ensures kept { self.old.spare ≤ self.new.spare }
+        ensures contexts_spare { self.new.contexts_spare ≡ self.old.contexts_spare }
     {
         if let Some(c) = self.filled {
             self.heaps.reserve(c)?;
@@ -79,20 +80,30 @@ impl Times {
         Ok(())
     }
 
-    /// Adds a context, which has no times, and takes memory for it. One that is there stays as it is. If memory runs out,
-    /// the contexts are as they were.
-    pub fn add_context(&mut self, c: Obj) -> Result<(), Memory>
+    /// Takes memory for one more context. If memory runs out, all is as it was.
+    pub fn reserve_context(&mut self) -> Result<(), Memory>
         ensures dues { self.new.dues ≡ self.old.dues }
-        ensures added { OnOk result (self.new.contexts ≡ with_context self.old.contexts c) }
-        ensures kept { OnErr result (self.new.contexts ≡ self.old.contexts) }
+        ensures contexts { self.new.contexts ≡ self.old.contexts }
         ensures spare { self.new.spare ≡ self.old.spare }
+        ensures contexts_spare { OnOk result (0 < self.new.contexts_spare) }
+        ensures kept { self.old.contexts_spare ≤ self.new.contexts_spare }
+    {
+        Ok(self.heaps.reserve_heap()?)
+    }
+
+    /// Adds a context, which has no times. One that is there stays as it is. It uses up the memory for one more time.
+    pub fn add_context(&mut self, c: Obj)
+        requires room { 0 < self.old.spare }
+        requires context { 0 < self.old.contexts_spare }
+        ensures dues { self.new.dues ≡ self.old.dues }
+        ensures contexts { self.new.contexts ≡ with_context self.old.contexts c }
     {
         if self.heaps.has(c.0) {
-            return Ok(());
+            return;
         }
-        self.heaps.add(c.0)?;
+        self.heaps.add(c.0);
+        self.filled = Some(c.0);
         self.changes = self.changes.and(&Change::Opens(c), &());
-        Ok(())
     }
 
     /// Adds the time of an object that has none.
@@ -103,6 +114,7 @@ impl Times {
         requires known { has_context self.old.contexts due.context ≡ true }
         ensures dues { self.new.dues ≡ put_in due self.old.dues }
         ensures contexts { self.new.contexts ≡ self.old.contexts }
+        ensures contexts_spare { self.old.contexts_spare ≤ self.new.contexts_spare }
     {
         self.heaps.enter(&mut self.places, due);
         self.filled = Some(due.context.0);
@@ -117,6 +129,7 @@ impl Times {
         requires known { has_context self.old.contexts c ≡ true }
         ensures dues { self.new.dues ≡ armed self.old.dues x time number c }
         ensures contexts { self.new.contexts ≡ self.old.contexts }
+        ensures contexts_spare { self.old.contexts_spare ≤ self.new.contexts_spare }
     {
         self.disarm(x);
         self.enter(Due {
@@ -133,6 +146,7 @@ impl Times {
         ensures dues { self.new.dues ≡ disarmed self.old.dues x }
         ensures contexts { self.new.contexts ≡ self.old.contexts }
         ensures spare { self.old.spare ≤ self.new.spare }
+        ensures contexts_spare { self.old.contexts_spare ≤ self.new.contexts_spare }
     {
         let Some(place) = self.places.take(x.0) else {
             return false;
@@ -165,6 +179,7 @@ impl Times {
         ensures elsewhere { times_without self.new.dues c ≡ times_without self.old.dues c }
         ensures contexts { self.new.contexts ≡ self.old.contexts }
         ensures spare { self.old.spare ≤ self.new.spare }
+        ensures contexts_spare { self.old.contexts_spare ≤ self.new.contexts_spare }
     {
         let first = self.earliest(c);
         if let Some(due) = first {
@@ -173,12 +188,13 @@ impl Times {
         first
     }
 
-    /// Takes out all times of a context.
-    fn clear(&mut self, c: Obj)
+    /// Takes out all times of a context, which stays.
+    pub fn clear(&mut self, c: Obj)
         ensures dues { self.new.dues ≡ times_without self.old.dues c }
         ensures none { times_in self.new.dues c ≡ [] }
         ensures contexts { self.new.contexts ≡ self.old.contexts }
         ensures spare { self.old.spare ≤ self.new.spare }
+        ensures contexts_spare { self.old.contexts_spare ≤ self.new.contexts_spare }
     {
         while !self.is_empty(c) {
             self.pop(c);
@@ -191,6 +207,7 @@ impl Times {
         ensures dues { self.new.dues ≡ self.old.dues }
         ensures contexts { self.new.contexts ≡ without_context self.old.contexts c }
         ensures spare { self.new.spare ≡ self.old.spare }
+        ensures contexts_spare { self.old.contexts_spare ≤ self.new.contexts_spare }
     {
         self.heaps.drop(c.0);
         self.changes = self.changes.and(&Change::Closes(c), &());
@@ -201,6 +218,7 @@ impl Times {
         ensures dues { self.new.dues ≡ times_without self.old.dues c }
         ensures contexts { self.new.contexts ≡ without_context self.old.contexts c }
         ensures spare { self.old.spare ≤ self.new.spare }
+        ensures contexts_spare { self.old.contexts_spare ≤ self.new.contexts_spare }
     {
         self.clear(c);
         self.close(c);

@@ -1,9 +1,6 @@
-use Rattle.std.proofs.Common.{refl, arith}
+use Rattle.std.proofs.Common.{refl}
 use Rattle.timers.proofs.Written.{added}
 use Rattle.timers.proofs.heaps.Heaps.add.Goals as goal
 
-pub returns-clause-added : goal.returns-clause-added
-returns-clause-added c =
-    let none = c.in_ok-dues.ensures.len in
-    let one = c.in_ok-dues.ensures.exact in
-    added c.args.self.now c.args.c c.requires _ _ c.in_ok-dues.dues refl c.add.ensures.pairs c.in_ok-reserve.ensures.pairs c.in_ok-dues.ensures.items (omega (arith, none, one))
+pub returns : goal.returns
+returns c = added c.args.self.now c.args.c c.requires.vacant _ c.new-dues.result refl c.add.ensures.pairs c.new-dues.ensures.items

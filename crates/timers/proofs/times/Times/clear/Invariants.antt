@@ -7,6 +7,7 @@ invariant-loop-c l = record {
   elsewhere : times_without l.self.dues l.c ≡ times_without l.fn.self.dues l.c;
   contexts : l.self.contexts ≡ l.fn.self.contexts;
   spare : l.fn.self.spare ≤ l.self.spare;
+  contexts_spare : l.fn.self.contexts_spare ≤ l.self.contexts_spare;
 }
 
 abbrev pub decreases-loop-c : goal.decreases-loop-c
