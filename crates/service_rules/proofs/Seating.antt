@@ -38,7 +38,6 @@ use Rattle.tree_specs.specs.Events.Queues.{Head, head_of, next_of}
 use Rattle.tree_specs.specs.Events.Requests.{note_of, is_unreceived, cleanup_in, cancel_in}
 use Rattle.tree_specs.specs.Machine.FreeTable.{FreeMove, free_step}
 use Rattle.tree_specs.specs.Machine.Table.{Step, step, taken, resume, run_for, announced, event_of, lifted, work_of, plan_step, heard_in, reply_in, value_in, starting_step, handled_step, turn_step, cancelling_step, cleaning_step, release_object, cleaned_step, callback_step, notifying_step, receiving_step, vacating_step, triggering_step, deferred_step, parting_step, closing_step, request_step}
-use Rattle.tree_specs.proofs.Tree.Numbered.{by_test}
 use Rattle.tree_specs.proofs.Calls.Checks.{Heard, heard-leads, Reached, reached-leads}
 use Rattle.tree_specs.proofs.Calls.Checks.Heard.{HeardCall, HeardReturn}
 use Rattle.tree_specs.proofs.Calls.Checks.Reached.{ReachedOpening, ReachedHearing}

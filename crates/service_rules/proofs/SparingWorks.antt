@@ -21,7 +21,7 @@ use Rattle.tree_specs.specs.declared.frame.RequestFrame.{RequestFrame}
 use Rattle.tree_specs.specs.declared.frame.RequestFrame.TheVariants as request
 use Rattle.tree_specs.specs.declared.frame.Errand.{Errand}
 use Rattle.tree_specs.specs.declared.frame.Errand.TheVariants.{Finish, Notify, Receive, Cancel}
-use Rattle.tree_specs.specs.Tree.Pool.{Pool, row_of, edited, is_usable, soon_here, times_here, exit, set_mark, marked_row, schedule, unschedule, disarm, renote, finish, receive, run_queue, trigger}
+use Rattle.tree_specs.specs.Tree.Pool.{Pool, row_of, is_usable, soon_here, times_here, exit, set_mark, marked_row, schedule, unschedule, disarm, renote, finish, receive, run_queue, trigger}
 use Rattle.tree_specs.specs.Tree.Targets.{newest_ref}
 use Rattle.tree_specs.specs.Calls.Refusals.{Check, refusals, is_entry, is_doomed, is_doomed_mark}
 use Rattle.tree_specs.specs.Calls.Plans.{unless_refused, frees}
