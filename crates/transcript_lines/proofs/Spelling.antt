@@ -251,7 +251,7 @@ field_is_word (AnObject x) h = object_field.is_word x (and_true (is_number x.0) 
 field_is_word (ANumeral kind n) h = (numeral_field kind).is_word n (and_true (is_in kind n) true h).0
 field_is_word (AName name) h = (name_field Two).is_word name (and_true (is_name name) true h).0
 field_is_word (SomeBytes bytes) h = octets_field.is_word bytes h
-field_is_word TheContext h = (numeral_field Number).is_word 0 refl
+field_is_word (TheContext c) h = object_field.is_word c (and_true (is_number c.0) true h).0
 
 all_words : (ps : List Part) → all_fit ps ≡ true → list_all word_ok ps ≡ true → list_all is_unspaced (words_of ps) ≡ true
 all_words [] h w = refl
