@@ -2,30 +2,11 @@
 ghost use Rattle.std.specs.Prelude.{◌≡◌, ◌++◌, cond, codes, [], OnOk, OnErr};
 ghost use Rattle.tree_specs.specs.Texts.Text.{newline};
 ghost use Rattle.tree_specs.specs.Texts.Written.{Writes};
-ghost use Rattle.text_forms.specs.Contexts.{is_in_context};
 ghost use Rattle.schedule_text.specs.Converted.{gains_context, Converts};
 
 use crate::line_reader::read_line;
-use text_forms::FormFault;
-use tree_specs::{Act, Call, Input, Memory, Version};
-
-/// Whether a call says its context in version 2.
-fn is_in_context(call: &Call) -> bool
-    ensures { result ≡ is_in_context call.now }
-{
-    matches!(
-        call,
-        Call::Schedule { .. }
-            | Call::Timer { .. }
-            | Call::Fd { .. }
-            | Call::Defer { .. }
-            | Call::Post { .. }
-            | Call::Endtime { .. }
-            | Call::Enqueue { .. }
-            | Call::Pending { .. }
-            | Call::Turn { .. }
-    )
-}
+use text_forms::{FormFault, is_in_context};
+use tree_specs::{Act, Input, Memory, Version};
 
 /// Whether the line of an input says a context in version 2 that it doesn't say in this one.
 fn gains_context(version: Version, input: Input) -> bool
