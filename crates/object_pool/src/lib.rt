@@ -3,8 +3,8 @@
 
 mod contexts;
 mod counting;
+mod doomed;
 mod events;
-mod marks;
 mod places;
 mod pool;
 

@@ -49,12 +49,7 @@ fn event(step: &FreeStep, closed: Option<u32>) -> Option<Event>
 
 /// Lets go of what the next step of the innermost free lets go of: it waits no more. Gives the descriptor that was closed,
 /// where one was. This comes before the step, since a queue comes soon by the contexts as they are before it.
-fn let_go_next(
-    engine: &FreeEngine,
-    tree: &Tree,
-    refs: &Refs,
-    events: &mut Events,
-) -> Option<u32>
+fn let_go_next(engine: &FreeEngine, tree: &Tree, refs: &Refs, events: &mut Events) -> Option<u32>
     requires refs { AreRefsOf refs.now.pairs tree.now.rows }
     requires kept { AreKept engine.now tree.now }
     requires settled { speaking (frees_of engine.now tree.now) ≡ true }

@@ -10,7 +10,7 @@ ghost use Rattle.object_pool.specs.Hosting.{left_by_turn, goes_after_turn};
 
 use crate::contexts::is_usable;
 use crate::counting::add_row;
-use crate::marks::is_doomed;
+use crate::doomed::is_doomed;
 use crate::pool::ObjectPool;
 use tree_specs::{Kind, Mark, Name, Obj, Owner};
 

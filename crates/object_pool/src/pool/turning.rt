@@ -7,7 +7,7 @@ ghost use Rattle.tree_specs.specs.Events.Coming.{rotated, begun, comes_as, is_on
 ghost use Rattle.loop_core.specs.Picks.{begin_pick, clock_pick, ready_pick};
 ghost use Rattle.object_pool.specs.Upcoming.{pool_picked, started};
 
-use crate::marks::is_doomed;
+use crate::doomed::is_doomed;
 use crate::pool::ObjectPool;
 use loop_core::Pick;
 use tree_specs::{Handler, Kind, Mark, Obj, Wants, What};

@@ -1,4 +1,4 @@
-//! What is said of the mark of an object.
+//! What is to be freed later, or is being freed.
 ghost use Rattle.std.specs.Prelude.{◌≡◌};
 ghost use Rattle.tree_specs.specs.Calls.Refusals.{is_doomed_mark};
 
