@@ -42,12 +42,12 @@ invariant_of-self-2 c =
     let h = c.self.inside.heaps in
     let fewer = c.take.ensures.spare in (
       keeps-noted c.take_out.new.self c.take_out.new.places.pairs c.self.inside.changes.items c.and-self-inside.result.items (Leaves c.args.x) c.and-self-inside.ensures
-      (keeps-left h _ _ _ c.self.invariant.0 c.args.x c.in-Some.place found c.take.new.self.pairs c.take.ensures.pairs
-      c.take_out.new.self c.take_out.new.places.pairs c.take_out.ensures.left c.take_out.ensures.open c.take_out.ensures.beside),
+          (keeps-left h _ _ _ c.self.invariant.0 c.args.x c.in-Some.place found c.take.new.self.pairs c.take.ensures.pairs
+          c.take_out.new.self c.take_out.new.places.pairs c.take_out.ensures.left c.take_out.ensures.open c.take_out.ensures.beside),
       room-left h _ _ _ c.self.invariant.0 c.args.x c.in-Some.place found c.take.new.self.pairs c.take.ensures.pairs
-      c.take_out.new.self c.take_out.new.places.pairs c.take_out.ensures.left c.take_out.ensures.open c.take_out.ensures.beside
-      c.self.inside.places.spare c.take_out.new.places.spare c.self.inside.filled c.take_out.ensures.room
-      (subst (λ n. c.self.inside.places.spare ≤ n) (sym c.take_out.ensures.spare) fewer) c.self.invariant.1,
+          c.take_out.new.self c.take_out.new.places.pairs c.take_out.ensures.left c.take_out.ensures.open c.take_out.ensures.beside
+          c.self.inside.places.spare c.take_out.new.places.spare c.self.inside.filled c.take_out.ensures.room
+          (subst (λ n. c.self.inside.places.spare ≤ n) (sym c.take_out.ensures.spare) fewer) c.self.invariant.1,
     )
 
 pub returns-clause-result : goal.returns-clause-result

@@ -18,7 +18,7 @@ invariant_of-self c =
     let none : c.self.inside.filled ≡ None = unfilled c.self.inside.filled (subst (λ (v : Timetable). 0 < v.spare) (sym c.self.view_is) c.requires.room) in
     let h = c.self.inside.heaps in (
       keeps-noted c.enter.new.self c.enter.new.places.pairs c.self.inside.changes.items c.and-self-inside.result.items (Enters c.args.due) c.and-self-inside.ensures
-      (keeps-entered h _ _ _ c.self.invariant.0 c.args.due absent c.enter.new.self c.enter.new.places.pairs c.enter.ensures.entered c.enter.ensures.open c.enter.ensures.beside),
+          (keeps-entered h _ _ _ c.self.invariant.0 c.args.due absent c.enter.new.self c.enter.new.places.pairs c.enter.ensures.entered c.enter.ensures.open c.enter.ensures.beside),
       room-entered h _ _ _ c.self.invariant.0 c.args.due absent c.enter.new.self c.enter.new.places.pairs c.enter.ensures.entered c.enter.ensures.open c.enter.ensures.beside
-      c.self.inside.places.spare c.enter.new.places.spare (subst (HasRoom (room_in h) (is_open h) c.self.inside.places.spare) none c.self.invariant.1),
+          c.self.inside.places.spare c.enter.new.places.spare (subst (HasRoom (room_in h) (is_open h) c.self.inside.places.spare) none c.self.invariant.1),
     )
