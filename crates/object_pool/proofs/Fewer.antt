@@ -123,7 +123,7 @@ lost-many : (ws : List Watch) (c : Obj) → length (ring_without ws c) ≡ lengt
 lost-many ws c = joined (filter (λ w. not (is_same w.context c)) ws) (map lost (ring_in ws c)) ∙ each ws
   where
     joined : (vs us : List Watch) → length (vs ++ us) ≡ length vs + length us
-    joined [] us = refl
+    joined [] us = omega arith
     joined (v ∷ vs) us = let n = joined vs us in omega (arith, n)
 
     each : (vs : List Watch) → length (filter (λ w. not (is_same w.context c)) vs) + length (map lost (ring_in vs c)) ≡ length vs

@@ -11,7 +11,7 @@ use Rattle.tree_specs.specs.Tree.Forest.{IsForest}
 use Rattle.tree_specs.specs.Tree.Pool.{Pool, of_rows, row_of, is_row, is_context_row, is_usable_row, is_usable, changed, without, left_row, add, place}
 use Rattle.tree_specs.specs.Tree.Targets.{is_context}
 use Rattle.tree_specs.specs.Words.Objects.{same, first_context}
-use Rattle.tree_specs.proofs.Tree.Numbered.{by_test, same_or_not, same-false, same-true}
+use Rattle.tree_specs.proofs.Tree.Numbered.{by_test, same_or_not, same-equal, same-true}
 use Rattle.tree_specs.proofs.Tree.Rows.{row_of-changed-same, row_of-changed-other, row_of-changed-none, row_of-without-same, row_of-without-other, row_of-placed-same, row_of-placed-other}
 use Rattle.destructors.specs.Changes.{bare, SameRows, ChangedBy, placed_rows}
 use Rattle.object_pool.specs.Upcoming.{Agenda, holds_context, is_other, HoldsUsable, KeepsContexts, KeepsAllBut, gone_by}
@@ -28,7 +28,7 @@ HoldsContexts rs a = (c : Obj) → is_context_row (row_of rs c) ≡ true → hol
 -- so it may in each that is usable
 pub holds-usable : (rs : List Row) (a : Agenda) → HoldsContexts rs a → HoldsUsable rs a
 holds-usable rs a h c usable = by_test (same c first_context)
-    (λ t. let first : same first_context c ≡ true = rw (same-true c first_context t) at t in rw first refl)
+    (λ t. let first : same first_context c ≡ true = same-equal first_context c (sym (same-true c first_context t)) in rw first refl)
     (λ t. h c (both (is_context_row (row_of rs c)) (is_usable_row (row_of rs c)) (rw t at usable)))
   where
     both : (a b : Bool) → (a && b) ≡ true → a ≡ true

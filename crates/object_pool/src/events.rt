@@ -67,7 +67,7 @@ fn count(soon: usize, times: usize, ring: usize, entries: usize) -> Option<usize
 
 #[tactic(auto, using(pool_arena::proofs::NumberMaps::none_listed, pool_arena::proofs::NumberMaps::put_listed, pool_arena::proofs::NumberMaps::removed_listed, pool_arena::proofs::NumberMaps::found_listed))]
 impl Events {
-    ghost use Rattle.std.specs.Prelude.{◌^◌, IfOk, OnOk, OnErr, []};
+    ghost use Rattle.std.specs.Prelude.{◌^◌, IfOk, OnOk, OnErr, [], true};
     ghost use Rattle.tree_specs.specs.Events.Pending.{disarmed, is_numbered};
     ghost use Rattle.tree_specs.specs.Events.Handlers.{handler_of};
     ghost use Rattle.tree_specs.specs.Events.Rotation.{is_watching, is_watched, flags_of, flagged, closing, turned_back, closes_with, wanted_of};
@@ -132,7 +132,8 @@ impl Events {
 
     /// Adds a context, in which nothing comes yet.
     pub fn add_context(&mut self, c: Obj)
-        requires { 0 < self.old.contexts_spare }
+        requires place { HasPlace self.old }
+        requires spare { 0 < self.old.contexts_spare }
         ensures upcoming { self.new.upcoming ≡ self.old.upcoming }
         ensures added { holds_context self.new c ≡ true }
         ensures held { (d : ObjData) → holds_context self.old d ≡ true → holds_context self.new d ≡ true }

@@ -79,8 +79,12 @@ fn an_object_has_the_time_that_it_got_last(rt: HostRuntime) -> Result<(), Fail> 
 #[test]
 fn each_context_has_its_own_times(rt: HostRuntime) -> Result<(), Fail> {
     let mut times = Times::new(rt.alloc());
-    times.add_context(Obj(50))?;
-    times.add_context(Obj(60))?;
+    times.reserve()?;
+    times.reserve_context()?;
+    times.add_context(Obj(50));
+    times.reserve()?;
+    times.reserve_context()?;
+    times.add_context(Obj(60));
     arm_by_object(&mut times, 1, 30, FIRST)?;
     arm_by_object(&mut times, 2, 20, Obj(50))?;
     arm_by_object(&mut times, 3, 10, Obj(60))?;
@@ -98,7 +102,9 @@ fn each_context_has_its_own_times(rt: HostRuntime) -> Result<(), Fail> {
 #[test]
 fn an_object_has_a_time_in_one_context(rt: HostRuntime) -> Result<(), Fail> {
     let mut times = Times::new(rt.alloc());
-    times.add_context(Obj(50))?;
+    times.reserve()?;
+    times.reserve_context()?;
+    times.add_context(Obj(50));
     arm_by_object(&mut times, 1, 10, FIRST)?;
     arm_by_object(&mut times, 2, 20, FIRST)?;
     arm_by_object(&mut times, 1, 30, Obj(50))?;
@@ -112,7 +118,9 @@ fn an_object_has_a_time_in_one_context(rt: HostRuntime) -> Result<(), Fail> {
 #[test]
 fn a_dropped_context_takes_its_times_with_it(rt: HostRuntime) -> Result<(), Fail> {
     let mut times = Times::new(rt.alloc());
-    times.add_context(Obj(50))?;
+    times.reserve()?;
+    times.reserve_context()?;
+    times.add_context(Obj(50));
     arm_by_object(&mut times, 1, 10, Obj(50))?;
     arm_by_object(&mut times, 2, 20, FIRST)?;
     arm_by_object(&mut times, 3, 30, Obj(50))?;
@@ -128,10 +136,16 @@ fn a_dropped_context_takes_its_times_with_it(rt: HostRuntime) -> Result<(), Fail
 #[test]
 fn a_context_that_is_added_again_keeps_its_times(rt: HostRuntime) -> Result<(), Fail> {
     let mut times = Times::new(rt.alloc());
-    times.add_context(Obj(50))?;
+    times.reserve()?;
+    times.reserve_context()?;
+    times.add_context(Obj(50));
     arm_by_object(&mut times, 1, 10, Obj(50))?;
-    times.add_context(Obj(50))?;
-    times.add_context(FIRST)?;
+    times.reserve()?;
+    times.reserve_context()?;
+    times.add_context(Obj(50));
+    times.reserve()?;
+    times.reserve_context()?;
+    times.add_context(FIRST);
     assert_eq!(rt; times.len(Obj(50)), 1);
     Ok(())
 }
