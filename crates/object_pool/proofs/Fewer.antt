@@ -23,7 +23,7 @@ use Rattle.tree_specs.proofs.Tree.Numbered.{by_test}
 use Rattle.loop_core.specs.declared.pick.Pick.{Pick}
 use Rattle.loop_core.specs.declared.pick.Pick.TheVariants.{Soon, Time}
 use Rattle.object_pool.specs.Requests.{count_unreceived}
-use Rattle.object_pool.specs.Upcoming.{Upcoming, after, picked, pending, pending_most, without_event}
+use Rattle.object_pool.specs.Upcoming.{Upcoming, after, count_of, picked, pending, pending_most, without_event}
 
 module _ {A : Type 0} where
   pub filtered-fewer : (keep : A → Bool) (xs : List A) → length (filter keep xs) ≤ length xs
@@ -88,6 +88,11 @@ left-fewer qs x y is = each (entry_of qs x) refl is
 
 pub without-entries : (qs : Queues) (x : Obj) → length (without_entry qs x).entries ≤ length qs.entries
 without-entries qs x = filtered-fewer _ qs.entries
+
+-- with the queue that comes soon there are no more than before
+pub left-count : (qs : Queues) (x : Obj) (o : Option Coming) → looked_for (without_entry qs x) (entry_of qs x) ≡ o → length (without_entry qs x).entries + count_of o ≤ length qs.entries
+left-count qs x None e = let n = without-entries qs x in omega (arith, n)
+left-count qs x (Some y) e = left-fewer qs x y e
 
 -- one that is put in is one more at most
 pub entries-more : (es : List (ℕ × QueueEntry)) (n : ℕ) (e : QueueEntry) → length (put nat_cmp n e es) ≤ length es + 1

@@ -8,6 +8,8 @@ use Rattle.tree_specs.specs.Events.Descriptors.{Descriptors}
 use Rattle.tree_specs.specs.Events.Handlers.{Handlers}
 use Rattle.tree_specs.specs.declared.object.Owner.{Owner}
 use Rattle.tree_specs.specs.declared.kind.Kind.{Kind}
+use Rattle.tree_specs.specs.declared.kind.Kind.TheVariants.{Context}
+use Rattle.tree_specs.proofs.Tree.Numbered.{by_test, same-true}
 use Rattle.tree_specs.specs.declared.row.Row.{Row}
 use Rattle.tree_specs.specs.Tree.Inside.{total}
 use Rattle.tree_specs.specs.declared.row.Mark.{Mark}
@@ -39,7 +41,7 @@ use Rattle.tree_specs.specs.Words.Objects.{same}
 use Rattle.object_pool.specs.Agreeing.{AgreeWith}
 use Rattle.loop_core.specs.declared.pick.Pick.{Pick}
 use Rattle.loop_core.specs.declared.pick.Pick.TheVariants.{Soon}
-use Rattle.object_pool.specs.Upcoming.{Upcoming, Agenda, KeepsPlaces, KeepsContexts, KeepsAllBut, gone_by, AllBefore, AreGiven, watcher_number, after, picked, pending_most, with_watch, with_closed}
+use Rattle.object_pool.specs.Upcoming.{Upcoming, Agenda, KeepsPlaces, KeepsContexts, KeepsAllBut, gone_by, holds_context, AllBefore, AreGiven, watcher_number, after, picked, pending_most, turned_to, with_watch, with_closed}
 use Rattle.object_pool.proofs.Numbers.{steps-next}
 use Rattle.object_pool.proofs.Given.{given-later, told-given, picked-given, ring-changed, ring-turned}
 use Rattle.object_pool.proofs.Fewer.{told-fewer, picked-fewer, rewatched-many, turned-fewer}
@@ -281,6 +283,34 @@ event-added b t' ls' e x kind owner name spare ready plain none serial fresh is 
     let all = given (omega (arith, next)) (omega (arith, next, number)) in
     waits (record b { tree = t'; sums = ls'; event = false; ready = false }) e all kc (row-added b t' ls' false x kind owner 0 name spare never ready plain none serial fresh is works limits a)
 
+-- a new context, in which all may come
+pub context-added : (b : Inside) (t' : Links) (ls' : Limits) (e : Agenda) (x : Obj) (owner : Owner) (name : List ℕ) → ls'.spare ≡ b.sums.spare → b.ready ≡ true → x ≡ record { 0 = b.tree.next } → row_of b.tree.rows x ≡ None
+    → pool_of t' ≡ add (pool_of b.tree) Context owner 0 name → works_of t' ≡ works_of b.tree → AreLimitsOf ls'.limited t'.rows → e.upcoming ≡ b.events.upcoming → holds_context e x ≡ true → ((d : Obj) → holds_context b.events d ≡ true → holds_context e d ≡ true)
+    → AgreeWith b → AgreeWith (record b { tree = t'; sums = ls'; events = e; event = false; context = false; ready = false })
+context-added b t' ls' e x owner name spare ready serial fresh is works limits same_events here held a =
+    let next = ap (λ (p : Pool). p.next) is in
+    let more = ap (λ (p : Pool). length p.rows) is in
+    let rows : t'.rows ≡ (add (pool_of b.tree) Context owner 0 name).rows = ap (λ (p : Pool). p.rows) is in
+    let frees : t'.frees ≡ b.tree.frees = ap (λ (z : List FreeFrame × ℕ). z.0) works in
+    let room : t'.room ≡ b.tree.room = ap (λ (z : List FreeFrame × ℕ). z.1) works in
+    let c = (a.call ready).works in
+    record {
+      references = refs-with b.refs b.tree t' x Context owner 0 name refl serial fresh is a.references;
+      limits = limits;
+      kept = kept-same b.engine b.tree t' frees a.kept;
+      room = any-room b.engine t' (omega (arith, c, room, more));
+      given = rw same_events (given-later b.tree.next t'.next b.events.upcoming (omega (arith, next)) a.given);
+      contexts = λ d h. by_test (same x d)
+          (λ t. subst (λ (y : Obj). holds_context e y ≡ true) (same-true x d t) here)
+          (λ t. let was = rw rows at h in let apart : same (record { 0 = b.tree.next }) d ≡ false = subst (λ (y : Obj). same y d ≡ false) serial t in held d (a.contexts d (rw apart at was)));
+      call = never;
+      placed = never;
+      reference = a.reference;
+      limit = λ z. let l = a.limit z in omega (arith, l, spare);
+      event = never;
+      context = never;
+    }
+
 -- no more wait
 pub still-agree : (b : Inside) (e : Agenda) → KeepsPlaces b.events e → KeepsContexts b.events e → pending_most e.upcoming ≤ pending_most b.events.upcoming → AreGiven b.tree.next e.upcoming → AgreeWith b → AgreeWith (record b { events = e })
 still-agree b e k kc n given a = record {
@@ -309,6 +339,11 @@ unscheduled-agree b e x is k kc a =
 
 pub picked-agree : (b : Inside) (e : Agenda) (pick : Pick) → e.upcoming ≡ picked pick b.events.upcoming → KeepsPlaces b.events e → KeepsContexts b.events e → AgreeWith b → AgreeWith (record b { events = e })
 picked-agree b e pick is k kc a = becomes b e (picked pick b.events.upcoming) is k kc (picked-fewer pick b.events.upcoming) (picked-given b.tree.next b.events.upcoming pick a.given) a
+
+-- another context's turn is under way
+pub turn-agree : (b : Inside) (e : Agenda) (o : Option Obj) → e.upcoming ≡ turned_to o b.events.upcoming → KeepsPlaces b.events e → KeepsContexts b.events e → AgreeWith b → AgreeWith (record b { events = e })
+turn-agree b e o is k kc a =
+    becomes b e (turned_to o b.events.upcoming) is k kc (omega arith) (record { times = a.given.times; ring = a.given.ring; requests = a.given.requests; queues = a.given.queues; entries = a.given.entries }) a
 
 -- ---- the events on descriptors
 

@@ -14,7 +14,7 @@ use Rattle.destructors.proofs.Counting.{silent-rows}
 use Rattle.destructors.proofs.Hosting.{begins}
 use Rattle.destructors.proofs.Keeping.{told-kept}
 use Rattle.destructors.proofs.Settling.{told-settled}
-use Rattle.object_pool.specs.Upcoming.{Upcoming, Agenda, KeepsPlaces, KeepsContexts, KeepsAllBut, MayForget, without_left}
+use Rattle.object_pool.specs.Upcoming.{Upcoming, Agenda, KeepsPlaces, KeepsContexts, KeepsAllBut, MayForget, after, gone_by, without_gone, without_left}
 
 -- a free that has begun is at work
 pub begun-works : (f : FreeFrame) (fs : List FreeFrame) (p : Pool) (t : OpenFrees) → MayBegin f p → AreAwaiting fs p → Begins (f ∷ fs) p t → IsAtWork t
@@ -63,8 +63,12 @@ places-both a b c k l = record {
 }
 
 -- so are contexts
-pub contexts-both : (gone : Option Obj) (a b c : Agenda) → KeepsContexts a b → KeepsAllBut gone b c → KeepsAllBut gone a c
-contexts-both gone a b c k l = record {
+pub contexts-both : (o : Option Obj) (a b c : Agenda) → KeepsContexts a b → KeepsAllBut o b c → KeepsAllBut o a c
+contexts-both o a b c k l = record {
   held = λ d other held. l.held d other (k.held d held);
   spare = (let i = k.spare in let j = l.spare in omega (arith, i, j));
 }
+
+-- what is to come after a step, by one change after another
+pub after-both : (rs : List Row) (told : FreeStep) (next : Option FreeStep) (u mid new : Upcoming) → next ≡ Some told → mid ≡ without_left rs (let_go_by next) u → new ≡ without_gone (gone_by (Some told)) mid → new ≡ after rs (Some told) u
+after-both rs told next u mid new tells left gone = gone ∙ ap (without_gone (gone_by (Some told))) (left ∙ ap (λ (o : Option FreeStep). without_left rs (let_go_by o) u) tells)

@@ -130,6 +130,16 @@ pub record KeepsPlaces (old new : Agenda) : Type 0 where
   pub requests : old.requests_spare ≤ new.requests_spare
   pub queues : old.queues_spare ≤ new.queues_spare
 
+-- no fewer of all may come but of what comes soon, and no context is lost
+pub record KeepsRest (old new : Agenda) : Type 0 where
+  pub times : old.times_spare ≤ new.times_spare
+  pub ring : old.ring_spare ≤ new.ring_spare
+  pub descriptors : old.descriptors_spare ≤ new.descriptors_spare
+  pub handlers : old.handlers_spare ≤ new.handlers_spare
+  pub requests : old.requests_spare ≤ new.requests_spare
+  pub queues : old.queues_spare ≤ new.queues_spare
+  pub contexts : KeepsContexts old new
+
 -- ---- what is told, and what it leaves
 
 -- an object waits no more; a descriptor that is to be closed with it is closed

@@ -3,7 +3,7 @@ ghost use Rattle.std.specs.Prelude.{◌≡◌, ◌+◌, ◌<◌, ◌≤◌, IsSo
 ghost use Rattle.std.specs.Option.{option_map};
 ghost use Rattle.tree_specs.specs.Events.Queues.{running_of, has_queue, run_as, next_of};
 ghost use Rattle.request_queue.specs.Register.{IsAbove, turn_of, triggered_by};
-ghost use Rattle.object_pool.specs.Upcoming.{HasPlace, KeepsPlaces, KeepsContexts, HoldsUsable, with_coming, count_of, queued, entered, out_of_queue, running, with_queues};
+ghost use Rattle.object_pool.specs.Upcoming.{HasPlace, KeepsPlaces, KeepsContexts, KeepsRest, HoldsUsable, with_coming, count_of, queued, entered, out_of_queue, running, with_queues};
 
 use crate::contexts::is_usable;
 use crate::events::Events;
@@ -28,7 +28,7 @@ impl Events {
         requires room { IsSome queue → length self.old.upcoming.queues.entries < self.old.soon_spare }
         requires usable { HoldsUsable tree.now.rows self.old }
         ensures upcoming { self.new.upcoming ≡ with_coming tree.now.rows queue self.old.upcoming }
-        ensures rest { self.new ≡ record self.old { upcoming = self.new.upcoming; soon_spare = self.new.soon_spare } }
+        ensures rest { KeepsRest self.old self.new }
         ensures spare { self.old.soon_spare ≤ self.new.soon_spare + count_of queue }
     {
         let Some(Coming { object, context }) = queue else {

@@ -1,11 +1,9 @@
 //! Event contexts: objects in which events, requests and queues come, and whose turns pick what comes.
-ghost use Rattle.std.specs.Prelude.{◌≡◌, ◌≢◌, ◌-◌, ◌^◌, ◌<◌, true, false, Some, None, codes, length};
+ghost use Rattle.std.specs.Prelude.{◌≡◌, ◌-◌, ◌^◌, ◌<◌, true, false, codes, length};
 ghost use Rattle.tree_specs.specs.declared.kind.Kind.TheVariants.{Context};
-ghost use Rattle.tree_specs.specs.declared.object.Obj.{Obj as ObjData};
-ghost use Rattle.tree_specs.specs.Tree.Pool.{is_owner, is_row, is_dying, is_usable, here, enter as entered, add as added};
-ghost use Rattle.tree_specs.specs.Words.Objects.{same, first_context};
-ghost use Rattle.tree_specs.specs.Promises.Grounded.{is_asked};
+ghost use Rattle.tree_specs.specs.Tree.Pool.{is_owner, is_usable, here, enter as entered, add as added};
 ghost use Rattle.tree_specs.specs.Calls.Refusals.{row_limit};
+ghost use Rattle.tree_specs.specs.Invariants.Sound.{TurnedAt};
 ghost use Rattle.object_pool.specs.Hosting.{left_by_turn, goes_after_turn};
 
 use crate::contexts::is_usable;
@@ -57,9 +55,7 @@ impl ObjectPool {
 
     /// Begins a turn of a context, which is busy from now on. The first one is no object, and stays as it is.
     pub fn enter(&mut self, context: Obj)
-        requires is { same context first_context ≡ false → is_row self.old.pool.rows context ≡ true }
-        requires live { same context first_context ≡ false → is_dying self.old.pool.rows context ≡ false }
-        requires unasked { same context first_context ≡ false → is_asked self.old.pool context ≡ false }
+        requires { is_usable self.old.pool.rows context ≡ true }
         ensures { self.new ≡ record self.old { pool = entered self.old.pool context } }
     {
         if context != Obj::first_context() {
@@ -71,9 +67,7 @@ impl ObjectPool {
     /// Ends the turn of a context, which is quiet again. Gives it where it is to be freed now, as one is that was to be
     /// freed in its turn. Nothing changes after a turn of the first one.
     pub fn exit(&mut self) -> Option<Obj>
-        requires is { (c : ObjData) → self.old.pool.turning ≡ Some c → is_row self.old.pool.rows c ≡ true }
-        requires live { (c : ObjData) → self.old.pool.turning ≡ Some c → is_dying self.old.pool.rows c ≡ false }
-        requires unasked { (c : ObjData) → self.old.pool.turning ≡ Some c → is_asked self.old.pool c ≡ false }
+        requires { TurnedAt self.old.pool.turning self.old.pool.rows }
         ensures goes { result ≡ goes_after_turn self.old.pool.turning self.old.pool }
         ensures pool { self.new ≡ record self.old { pool = left_by_turn self.old.pool.turning self.old.pool } }
     {

@@ -8,7 +8,7 @@ use Rattle.object_pool.proofs.Beside.{next-beside, steps-beside}
 use Rattle.object_pool.proofs.Fewer.{told-unreceived}
 use Rattle.object_pool.proofs.Hosted.{holds-usable}
 use Rattle.object_pool.proofs.Keeping.{stepped}
-use Rattle.object_pool.proofs.Onward.{contexts-both, forgets-later, places-both, steps-go_on}
+use Rattle.object_pool.proofs.Onward.{after-both, contexts-both, forgets-later, places-both, steps-go_on}
 use Rattle.object_pool.proofs.Opening.{at_work-inside, settled-inside}
 use Rattle.object_pool.proofs.pool.ObjectPool.step.Goals as goal
 
@@ -34,24 +34,20 @@ follow-requires c =
     let here = subst (λ (t : Option FreeStep). MayForget t u) (ap (λ (n : Option FreeStep × OpenFrees). n.0) (next-beside u s) ∙ c.step-step.ensures.steps.tells) may in
     rw (c.let_go_next-closed.ensures.upcoming, c.step-step.ensures.steps.tells) (forgets-later told c.self.inside.tree.rows u here)
 
--- what is to come after the step
-after-is : (c : goal.After-follow) → c.follow.new.self.upcoming ≡ after c.self.inside.tree.rows (Some c.step-step.result) c.self.inside.events.upcoming
-after-is c = rw (c.follow.ensures.upcoming, c.let_go_next-closed.ensures.upcoming, c.step-step.ensures.steps.tells) refl
-
 pub invariant_of-self : goal.invariant_of-self
 invariant_of-self c =
     let e = c.step-step.ensures in
     let l = c.let_go_next-closed.ensures in
     let d = c.follow.ensures in
     stepped c.self.inside _ _ _ _ _ c.step-step.result e.steps e.changed c.len-_rows.ensures.forest
-    (record { refs = e.places; sums = c.count_step.ensures.spare; upcoming = after-is c; places = places-both _ _ _ l.kept d.kept; contexts = contexts-both _ _ _ _ l.contexts d.contexts })
+    (record { refs = e.places; sums = c.count_step.ensures.spare; upcoming = after-both c.self.inside.tree.rows c.step-step.result _ c.self.inside.events.upcoming _ _ c.step-step.ensures.steps.tells c.let_go_next-closed.ensures.upcoming c.follow.ensures.upcoming; places = places-both _ _ _ l.kept d.kept; contexts = contexts-both _ _ _ _ l.contexts d.contexts })
     e.refs c.count_step.ensures.kept e.kept e.room c.self.invariant
 
 pub returns-clause-steps : goal.returns-clause-steps
 returns-clause-steps c =
     let told = c.step-step.result in
     let left = frees_beside (after c.self.inside.tree.rows (Some told) c.self.inside.events.upcoming) (frees_of c.step-step.new.self c.step-step.new.tree) in
-    rw (after-is c)
+    rw (after-both c.self.inside.tree.rows c.step-step.result _ c.self.inside.events.upcoming _ _ c.step-step.ensures.steps.tells c.let_go_next-closed.ensures.upcoming c.follow.ensures.upcoming)
     (subst (λ (o : Objects). Steps (frees_in o) told left) c.self.view_is
     (steps-beside c.self.inside.events.upcoming (frees_of c.self.inside.engine c.self.inside.tree) (frees_of c.step-step.new.self c.step-step.new.tree) told c.step-step.ensures.steps))
 
@@ -64,4 +60,4 @@ pub returns-clause-goes_on : goal.returns-clause-goes_on
 returns-clause-goes_on c = steps-go_on (frees_in c.args.self.now) _ c.step-step.result c.requires.at_work (returns-clause-steps c)
 
 pub returns-clause-requests : goal.returns-clause-requests
-returns-clause-requests c = rw (← c.self.view_is, after-is c) (told-unreceived c.self.inside.tree.rows c.step-step.result c.self.inside.events.upcoming)
+returns-clause-requests c = rw (← c.self.view_is, after-both c.self.inside.tree.rows c.step-step.result _ c.self.inside.events.upcoming _ _ c.step-step.ensures.steps.tells c.let_go_next-closed.ensures.upcoming c.follow.ensures.upcoming) (told-unreceived c.self.inside.tree.rows c.step-step.result c.self.inside.events.upcoming)
