@@ -25,7 +25,7 @@ impl Loop {
     ghost use Rattle.tree_specs.specs.Events.Contexts.{has_context, with_context, without_context};
     ghost use Rattle.tree_specs.specs.Events.Pending.{soon_in, soon_without, times_in, times_without};
     ghost use Rattle.tree_specs.specs.Events.Rotation.{ring_in, ring_without};
-    ghost use Rattle.loop_core.specs.Contexts.{HasSpareContext, KeepsSpares};
+    ghost use Rattle.loop_core.specs.Contexts.{HasSpareContext, IsIdle, KeepsSpares};
     ghost use Rattle.loop_core.specs.Picks.{begin_pick, clock_pick, ready_pick, soon_after, times_after};
 
     /// A loop that has nothing to do, and no context but the first one.
@@ -92,11 +92,12 @@ impl Loop {
         self.ring.clear(c);
     }
 
-    /// Drops a context, and all that there is to do in it. The first context stays, and there is nothing to do in it.
-    pub fn drop_context(&mut self, c: Obj)
-        ensures soon { self.new.soon.coming ≡ soon_without self.old.soon.coming c }
-        ensures times { self.new.times.dues ≡ times_without self.old.times.dues c }
-        ensures ring { self.new.ring.watches ≡ ring_without self.old.ring.watches c }
+    /// Drops a context in which there is nothing to do. The first context stays.
+    pub fn close_context(&mut self, c: Obj)
+        requires { IsIdle self.old.soon self.old.times self.old.ring c }
+        ensures soon { self.new.soon.coming ≡ self.old.soon.coming }
+        ensures times { self.new.times.dues ≡ self.old.times.dues }
+        ensures ring { self.new.ring.watches ≡ self.old.ring.watches }
         ensures soon_contexts { self.new.soon.contexts ≡ without_context self.old.soon.contexts c }
         ensures times_contexts { self.new.times.contexts ≡ without_context self.old.times.contexts c }
         ensures ring_contexts { self.new.ring.contexts ≡ without_context self.old.ring.contexts c }

@@ -81,7 +81,7 @@ fn a_turn_is_of_one_context(rt: HostRuntime) -> Result<(), Fail> {
     assert_eq!(rt; events.begin(Obj(5)), Pick::Soon(Obj(6)));
     assert_eq!(rt; events.begin(Obj(5)), Pick::AskWait(30_000_000));
     assert_eq!(rt; events.begin(FIRST), Pick::Soon(Obj(1)));
-    events.drop_context(FIRST);
+    events.clear_context(FIRST);
     assert_eq!(rt; events.begin(FIRST), Pick::AskWait(30_000_000));
     Ok(())
 }

@@ -1,7 +1,7 @@
 pub mod Marks
 pub mod Counted
 pub mod Hosted
-pub mod Contexts
+pub mod Lists
 pub mod Told
 pub mod Fields
 pub mod Keeping

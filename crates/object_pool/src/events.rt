@@ -346,7 +346,7 @@ impl Events {
         self.handlers.take(x.0);
         self.requests.forget(x);
         self.queues.forget_queue(x);
-        self.order.drop_context(x);
+        self.order.close_context(x);
     }
 
     /// Follows a step of a free: nothing is kept of what is no more.

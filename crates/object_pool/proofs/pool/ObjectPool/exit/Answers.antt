@@ -1,0 +1,4 @@
+use Rattle.object_pool.proofs.pool.ObjectPool.exit.Goals as goal
+
+pub invariant_of-self : goal.invariant_of-self
+invariant_of-self c = ?
