@@ -1,5 +1,5 @@
 -- How many may wait for their turn, and how many requests are still to be received, where some are no more.
-use Rattle.std.proofs.Common.{◌≡◌, ◌+◌, ◌≤◌, ℕ, Bool, true, false, not, List, [], ◌∷◌, ◌++◌, map, length, Option, Some, None, refl, ◌∙◌, arith}
+use Rattle.std.proofs.Common.{◌≡◌, ◌+◌, ◌≤◌, ℕ, Bool, true, false, not, List, [], ◌∷◌, ◌++◌, map, length, Option, Some, None, refl, sym, ap, ◌∙◌, arith}
 use Rattle.std.specs.List.{filter}
 use Rattle.std.specs.Ordering.{nat_cmp, eq_by_cmp}
 use Rattle.std.specs.FinMap.Entries.{find, put, by_order}
@@ -23,7 +23,7 @@ use Rattle.tree_specs.proofs.Tree.Numbered.{by_test}
 use Rattle.loop_core.specs.declared.pick.Pick.{Pick}
 use Rattle.loop_core.specs.declared.pick.Pick.TheVariants.{Soon, Time}
 use Rattle.object_pool.specs.Requests.{count_unreceived}
-use Rattle.object_pool.specs.Upcoming.{Upcoming, after, count_of, picked, pending, pending_most, without_event}
+use Rattle.object_pool.specs.Upcoming.{Upcoming, after, count_of, with_coming, picked, pending, pending_most, without_event}
 
 module _ {A : Type 0} where
   pub filtered-fewer : (keep : A → Bool) (xs : List A) → length (filter keep xs) ≤ length xs
@@ -90,9 +90,20 @@ pub without-entries : (qs : Queues) (x : Obj) → length (without_entry qs x).en
 without-entries qs x = filtered-fewer _ qs.entries
 
 -- with the queue that comes soon there are no more than before
-pub left-count : (qs : Queues) (x : Obj) (o : Option Coming) → looked_for (without_entry qs x) (entry_of qs x) ≡ o → length (without_entry qs x).entries + count_of o ≤ length qs.entries
-left-count qs x None e = let n = without-entries qs x in omega (arith, n)
-left-count qs x (Some y) e = left-fewer qs x y e
+pub left-count : (qs new : Queues) (x : Obj) (o : Option Coming) → new ≡ without_entry qs x → o ≡ looked_for new (entry_of qs x) → length new.entries + count_of o ≤ length qs.entries
+left-count qs new x o left comes =
+    let n = ap (λ (z : Queues). length z.entries) left in
+    let k = each o (ap (λ (z : Queues). looked_for z (entry_of qs x)) (sym left) ∙ sym comes) in
+    omega (arith, n, k)
+  where
+    each : (o : Option Coming) → looked_for (without_entry qs x) (entry_of qs x) ≡ o → length (without_entry qs x).entries + count_of o ≤ length qs.entries
+    each None e = let n = without-entries qs x in omega (arith, n)
+    each (Some y) e = left-fewer qs x y e
+
+-- what comes soon is in no queue
+pub coming-entries : (rs : List Row) (o : Option Coming) (u : Upcoming) → length (with_coming rs o u).queues.entries ≡ length u.queues.entries
+coming-entries rs None u = refl
+coming-entries rs (Some y) u = refl
 
 -- one that is put in is one more at most
 pub entries-more : (es : List (ℕ × QueueEntry)) (n : ℕ) (e : QueueEntry) → length (put nat_cmp n e es) ≤ length es + 1

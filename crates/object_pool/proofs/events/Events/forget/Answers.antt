@@ -1,5 +1,4 @@
 use Rattle.std.proofs.Common.{refl, sym, subst}
-use Rattle.loop_core.specs.Contexts.{IsIdle}
 use Rattle.pool_arena.proofs.NumberMaps.{removed_listed}
 use Rattle.object_pool.specs.Upcoming.{Agenda, IsForgettable}
 use Rattle.object_pool.proofs.Lists.{keeps-dropped, least}

@@ -1,4 +1,4 @@
-use Rattle.std.proofs.Common.{◌≡◌, ap, ◌∙◌}
+use Rattle.std.proofs.Common.{ap, ◌∙◌}
 use Rattle.object_pool.specs.Objects.{Objects}
 use Rattle.object_pool.proofs.Keeping.{context-added}
 use Rattle.object_pool.proofs.pool.ObjectPool.add_context.Goals as goal
