@@ -39,7 +39,7 @@ invariant_of-self c =
     let e = c.step-step.ensures in
     let l = c.let_go_next-closed.ensures in
     let d = c.follow.ensures in
-    stepped c.self.inside _ _ _ _ _ c.step-step.result e.steps e.changed c.len-rows.ensures.forest
+    stepped c.self.inside _ _ _ _ _ c.step-step.result e.steps e.changed c.len-rows.ensures.sound.forest
     (record { refs = e.places; sums = c.count_step.ensures.spare; upcoming = after-both c.self.inside.tree.rows c.step-step.result _ c.self.inside.events.upcoming _ _ c.step-step.ensures.steps.tells c.let_go_next-closed.ensures.upcoming c.follow.ensures.upcoming; places = places-both _ _ _ l.kept d.kept; contexts = contexts-both _ _ _ _ l.contexts d.contexts })
     e.refs c.count_step.ensures.kept e.kept e.room c.self.invariant
 
