@@ -64,8 +64,9 @@ fn let_go_next(engine: &FreeEngine, tree: &Tree, refs: &Refs, events: &mut Event
 }
 
 impl ObjectPool {
-    /// Begins the freeing of an object to which there is no reference. The memory for a call is taken before. Where a
-    /// free waits until a request was received or a queue has no entries, the memory for its works is enough.
+    /// Begins the freeing of an object to which there is no reference. The memory for a call is taken before. Where no free
+    /// is open, or the innermost one waits until a request was received or a queue has no entries, the memory for the
+    /// works is there.
     pub fn begin_free(&mut self, x: Obj)
         requires room { MayBeginFree self.old }
         requires awaiting { IsAwaiting (frees_in self.old) }

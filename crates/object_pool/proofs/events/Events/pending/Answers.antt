@@ -15,5 +15,5 @@ overflow_add-result-2 c =
     let few : pending_most c.args.self.now.upcoming < 2 ^ 64 = c.requires in
     let here = pending-most c.args.c c.args.self.now.upcoming in
     let is : c.len.result + c.len-2.result + c.len-3.result ≤ pending c.args.c c.args.self.now.upcoming =
-        subst (λ (a : Agenda). c.len.result + c.len-2.result + c.len-3.result ≤ pending c.args.c a.upcoming) c.self.view_is (let s = c.len.ensures in let t = c.len-2.ensures in let r = c.len-3.ensures in omega (arith, s, t, r)) in
+    subst (λ (a : Agenda). c.len.result + c.len-2.result + c.len-3.result ≤ pending c.args.c a.upcoming) c.self.view_is (let s = c.len.ensures in let t = c.len-2.ensures in let r = c.len-3.ensures in omega (arith, s, t, r)) in
     omega (arith, few, here, is)
