@@ -62,7 +62,7 @@ pub record Stays (t t' : Links) : Type 0 where
   pub contexts : NoMoreContexts t.rows t'.rows
 
 wanted-same : (fs : List FreeFrame) (rs rs' : List Row) → total row_places rs' ≡ total row_places rs → wanted fs rs' ≡ wanted fs rs
-wanted-same [] rs rs' e = refl
+wanted-same [] rs rs' e = e
 wanted-same (f ∷ fs) rs rs' e = omega (arith, e)
 
 -- those that wait may become fewer

@@ -43,7 +43,7 @@ innermost-has P b o e a h = subst P (innermost-is b.engine b.tree a.kept) (subst
 waiting-room : (f : FreeFrame) (o : Option FreeFrame) (t : Links) → work_places f ≡ 0 → AreKept o t → HasRoom o t → MayFreeOn o → HasRoomFor f o t
 waiting-room f None t none kept room r =
     let here : wanted t.frees t.rows ≡ total row_places t.rows = rw kept refl in
-    let works : wanted (f ∷ t.frees) t.rows ≡ work_places f + total row_places t.rows = rw kept refl in
+    let works : wanted (f ∷ t.frees) t.rows ≡ 0 + work_places f + total row_places t.rows = rw kept refl in
     omega (arith, none, room, here, works)
 waiting-room f (Some (Preparing x)) t none kept room r = room-within f (Preparing x) t none refl room
 waiting-room f (Some (Draining x)) t none kept room r = room-within f (Draining x) t none refl room
