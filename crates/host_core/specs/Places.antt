@@ -5,7 +5,7 @@ use Rattle.tree_specs.specs.declared.frame.Errand.TheVariants.{Receive}
 use Rattle.tree_specs.specs.declared.frame.FreeFrame.{FreeFrame}
 use Rattle.tree_specs.specs.declared.frame.FreeFrame.TheVariants.{Hooked, Judged, Draining, Prepared, Leaving}
 use Rattle.tree_specs.specs.declared.frame.TurnFrame.{TurnFrame}
-use Rattle.tree_specs.specs.declared.frame.TurnFrame.TheVariants.{Taking, Timed, Handled, Closing}
+use Rattle.tree_specs.specs.declared.frame.TurnFrame.TheVariants.{Handled}
 use Rattle.tree_specs.specs.declared.row.Row.{Row}
 use Rattle.tree_specs.specs.declared.row.Mark.TheVariants.{Quiet}
 use Rattle.tree_specs.specs.Calls.Refusals.{is_queue}
@@ -55,21 +55,17 @@ owed_by works p = count_unreceived p.requests + drains_of works p.rows
 
 abbrev pub errand_places : Errand → ℕ
 errand_places Receive = 3
-errand_places errand = 1
+errand_places errand = 2
 
 abbrev pub work_places : Work → ℕ
 work_places (work.Cleaning x errand) = errand_places errand
 work_places (work.Cleaned x errand) = errand_places errand
 work_places (work.Vacating queue) = 3
-work_places w = 1
+work_places w = 2
 
 -- what a turn takes with its next step
 abbrev pub turn_takes : TurnFrame → ℕ
-turn_takes Taking = 2
-turn_takes (Timed again now) = 2
-turn_takes (Handled what x) = 3
-turn_takes (Closing v) = 0
-turn_takes f = 1
+turn_takes f = 3
 
 -- and what is kept for it: an object whose handler is over is quiet again, and might be one more that a free may come to
 abbrev pub turn_places : TurnFrame → ℕ

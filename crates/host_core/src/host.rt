@@ -100,7 +100,7 @@ impl Host {
     ghost use Rattle.std.specs.Prelude.{◌&&◌};
     ghost use Rattle.tree_specs.specs.declared.object.Owner.TheVariants.{Of as At};
     ghost use Rattle.std.specs.Option.{option_map};
-    ghost use Rattle.tree_specs.specs.Tree.Pool.{row_of, is_row, is_inside as inside};
+    ghost use Rattle.tree_specs.specs.Tree.Pool.{row_of, is_row, ring_here, is_inside as inside};
     ghost use Rattle.tree_specs.specs.declared.object.Obj.{Obj as ObjData};
     ghost use Rattle.tree_specs.specs.Calls.Refusals.{is_queue_row, is_request_row};
     ghost use Rattle.tree_specs.specs.Events.Queues.{has_queue, is_entered};
@@ -168,10 +168,11 @@ impl Host {
         self.parts.objects.is_open(fd)
     }
 
-    /// Gives the descriptors that are watched for something, and what for, in the order in which a turn looks at them,
-    /// in place of what was in `out`. If memory runs out, nothing is given.
+    /// Gives the descriptors that are watched for something in the context whose turn is under way, or in the first one,
+    /// and what for, in the order in which a turn looks at them, in place of what was in `out`. If memory runs out, nothing
+    /// is given.
     pub fn wants(&self, out: &mut Vec<Want>) -> Result<(), Memory>
-        ensures wants { OnOk result (out.new.items ≡ wanted_of self.now.pool.ring) }
+        ensures wants { OnOk result (out.new.items ≡ wanted_of (ring_here self.now.pool)) }
         ensures nothing { OnErr result (out.new.items ≡ []) }
     {
         self.parts.objects.wants(out)
