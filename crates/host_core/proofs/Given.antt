@@ -16,8 +16,8 @@ use Rattle.tree_specs.specs.declared.frame.TurnFrame.TheVariants.{Timing, Pollin
 use Rattle.tree_specs.specs.declared.question.Ask.{Ask}
 use Rattle.tree_specs.specs.declared.question.Input.{Input}
 use Rattle.tree_specs.specs.declared.question.Input.TheVariants as input
-use Rattle.tree_specs.specs.Calls.Plans.{planned}
-use Rattle.tree_specs.specs.Calls.Refusals.{refusals}
+use Rattle.tree_specs.specs.Calls.Plans.{planned_at}
+use Rattle.tree_specs.specs.Calls.Refusals.{refusals_at}
 use Rattle.tree_specs.specs.Events.Coming.{looks_again}
 use Rattle.tree_specs.specs.Events.Rotation.{Ready, first_ready}
 use Rattle.tree_specs.specs.Invariants.Consistent.{IsConsistent}
@@ -64,21 +64,21 @@ module _ (q : Ask) (c : Call) (old : Parts) (whole : IsConsistent (called_view q
   pub call_queues : QueuesAreKept old.objects.pool
   call_queues = whole.queued.pool.queues
 
-  module _ (step : Step) (motion : Motion) (o : Objects) (steps : step_of step o.pool ≡ move_of q motion o.pool) (moved : move_of q motion o.pool ≡ call_step (refusals old.objects.pool c) q c old.objects.pool) (works : o.works ≡ old.objects.works) where
+  module _ (step : Step) (motion : Motion) (o : Objects) (steps : step_of step o.pool ≡ move_of q motion o.pool) (moved : move_of q motion o.pool ≡ call_step (refusals_at q old.objects.pool c) q c old.objects.pool) (works : o.works ≡ old.objects.works) where
     pub call_onward : StepsSilently (called_view q (input.Call c) old) (stepped_view step (record { waiting = old.waiting; objects = o }))
-    call_onward = step_onward (frame.Call (Doing q c)) step old o whole (steps ∙ moved) works (plan-steps q (planned old.objects.pool c) old.objects.pool).0
+    call_onward = step_onward (frame.Call (Doing q c)) step old o whole (steps ∙ moved) works (plan-steps q (planned_at q old.objects.pool c) old.objects.pool).0
 
     pub call_fit : Fits old.objects.works (reverse old.waiting.items) → Fits o.works (reverse old.waiting.items)
     call_fit fit = subst (λ (fs : List FreeFrame). Fits fs (reverse old.waiting.items)) (sym works) fit
 
-    pub call_places : IsBusy step → step_places step ≤ 3 → HasRoom old → HasPlacesFor (step_places step) (record { waiting = old.waiting; objects = o })
+    pub call_places : IsBusy step → step_places step ≤ 4 → HasRoom old → HasPlacesFor (step_places step) (record { waiting = old.waiting; objects = o })
     call_places busy most room =
-        let few = call-room q step (planned old.objects.pool c) old.objects.pool o.pool (may-planned (frame.Call (Doing q c)) _ old.objects.pool whole.sound c) room.order busy most (steps ∙ moved) in
+        let few = call-room q step (planned_at q old.objects.pool c) old.objects.pool o.pool (may-planned (frame.Call (Doing q c)) _ old.objects.pool whole.sound c) room.order busy most (steps ∙ moved) in
         let places = room.places in
         omega (arith, few, places)
 
   -- a call that is replied to at once leaves its caller at the reply
-  module _ (motion : Motion) (o : Objects) (moved : move_of q motion o.pool ≡ call_step (refusals old.objects.pool c) q c old.objects.pool) (works : o.works ≡ old.objects.works) (b : ShortReply) (is : motion ≡ Replies b)
+  module _ (motion : Motion) (o : Objects) (moved : move_of q motion o.pool ≡ call_step (refusals_at q old.objects.pool c) q c old.objects.pool) (works : o.works ≡ old.objects.works) (b : ShortReply) (is : motion ≡ Replies b)
       (next : Active) (tells : active_frame next ≡ frame.Call (telling q b)) (fit : Fits old.objects.works (reverse old.waiting.items)) where
     abbrev after : Parts
     after = record { waiting = old.waiting; objects = o }
@@ -105,10 +105,10 @@ module _ (q : Ask) (c : Call) (old : Parts) (whole : IsConsistent (called_view q
     replied_speaks = stands.speaks
 
 -- what a call does first leads on
-pub call_leads : (q : Ask) (c : Call) (o : Objects) (motion : Motion) (parts : Parts) (step : Step) → BeginsWith q c o motion parts → step_of step parts.objects.pool ≡ move_of q motion parts.objects.pool → IsBusy step → step_places step ≤ 3
+pub call_leads : (q : Ask) (c : Call) (o : Objects) (motion : Motion) (parts : Parts) (step : Step) → BeginsWith q c o motion parts → step_of step parts.objects.pool ≡ move_of q motion parts.objects.pool → IsBusy step → step_places step ≤ 4
     → StepReady step parts.objects → StepAnswers step (reverse parts.waiting.items) parts.objects → LeadsOn (called_view q (input.Call c) (with_objects o parts)) step parts
 call_leads q c o motion parts step b steps busy most ready answers =
-    step_leads (frame.Call (Doing q c)) step (with_objects o parts) parts.objects b.whole (steps ∙ b.moved) b.works (plan-steps q (planned o.pool c) o.pool).0 b.fit 3 (record { busy = busy; ready = ready; places = most }) answers
+    step_leads (frame.Call (Doing q c)) step (with_objects o parts) parts.objects b.whole (steps ∙ b.moved) b.works (plan-steps q (planned_at q o.pool c) o.pool).0 b.fit 4 (record { busy = busy; ready = ready; places = most }) answers
     (call_places q c (with_objects o parts) b.whole step motion parts.objects steps b.moved b.works busy most b.room)
 
 -- a caller is answered with a call, or with what a routine does

@@ -122,6 +122,6 @@ fits-silently s t ws (On u _ earlier last) e = each u.works (fits-silently s u w
 pub more-places : (a b : ℕ) (step : Step) (o : Objects) → a ≤ b → GoesWell a step o → GoesWell b step o
 more-places a b step o l g = let most = g.places in record { busy = g.busy; ready = g.ready; places = omega (arith, l, most) }
 
-pub errand-takes : (errand : Errand) → 1 ≤ errand_places errand
+pub errand-takes : (errand : Errand) → 2 ≤ errand_places errand
 errand-takes Receive = omega arith
 errand-takes _ = omega arith

@@ -27,7 +27,7 @@ use Rattle.tree_specs.specs.Events.Rotation.{Ready, first_ready}
 use Rattle.tree_specs.specs.Tree.Pool.{Pool}
 use Rattle.tree_specs.specs.Rules.Items.{Item}
 use Rattle.tree_specs.specs.Rules.Items.Item.{Asked}
-use Rattle.tree_specs.specs.Calls.Refusals.{refusals}
+use Rattle.tree_specs.specs.Calls.Refusals.{refusals_at}
 use Rattle.tree_specs.specs.Calls.Given.{Given, given_to}
 use Rattle.tree_specs.specs.Texts.Schedule.{unless_given, misfit}
 use Rattle.tree_specs.specs.Words.Ranges.{is_sound}
@@ -210,7 +210,7 @@ goes-reached q i below p o m s none h =
     goes-to (at (frame.Outside (Reaching q)) below p) q (frame.Outside (Reaching q)) (frame.Outside (outside_given q i)) i h refl (outside-answered q p i o m s none)
 
 -- a call whose report was made is at once at its reply
-goes-replied : (q : Ask) (c : Call) (r : Reply) (i : Input) (v : View) (below : List Frame) (p : Pool) → call_step (refusals p c) q c p ≡ replied q r p → Goes q i v (at (frame.Call (Doing q c)) below p)
+goes-replied : (q : Ask) (c : Call) (r : Reply) (i : Input) (v : View) (below : List Frame) (p : Pool) → call_step (refusals_at q p c) q c p ≡ replied q r p → Goes q i v (at (frame.Call (Doing q c)) below p)
     → Goes q i v (at (frame.Call (Telling (later q r) r)) below p)
 goes-replied q c r i v below p e g =
     let w : View = at (frame.Call (Doing q c)) below p in

@@ -38,7 +38,7 @@ use tree_specs::{Act, Ask, Call, Input, TurnFrame};
 fn turn() -> Step
     ensures step { (q : AskData) (p : PoolData) → step_of result p ≡ move_of q Motion.Turns p }
     ensures busy { IsBusy result }
-    ensures places { step_places result ≤ 3 }
+    ensures places { step_places result ≤ 4 }
     ensures ready { (o : ObjectsData) → o.ready ≡ true → StepReady result o }
     ensures answers { (ws : List WaitingData) (o : ObjectsData) → StepAnswers result ws o }
 {
@@ -50,7 +50,7 @@ fn turn() -> Step
 fn replies(ask: Ask, reply: ShortReply) -> Step
     ensures step { (p : PoolData) → step_of result p ≡ move_of ask (Motion.Replies reply) p }
     ensures busy { IsBusy result }
-    ensures places { step_places result ≤ 3 }
+    ensures places { step_places result ≤ 4 }
     ensures ready { (o : ObjectsData) → StepReady result o }
     ensures answers { (ws : List WaitingData) (o : ObjectsData) → StepAnswers result ws o }
 {
@@ -61,7 +61,7 @@ fn replies(ask: Ask, reply: ShortReply) -> Step
 fn call_step(ask: Ask, motion: Motion) -> Step
     ensures step { (p : PoolData) → step_of result p ≡ move_of ask motion p }
     ensures busy { IsBusy result }
-    ensures places { step_places result ≤ 3 }
+    ensures places { step_places result ≤ 4 }
     ensures ready { (o : ObjectsData) → ReadyFor motion o.ready → StepReady result o }
     ensures answers { (ws : List WaitingData) (o : ObjectsData) → StepAnswers result ws o }
 {
