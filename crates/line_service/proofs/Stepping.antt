@@ -16,8 +16,7 @@ use Rattle.tree_specs.specs.declared.question.Ask.TheVariants as ask
 use Rattle.tree_specs.specs.declared.question.Input.{Input}
 use Rattle.tree_specs.specs.declared.question.Input.TheVariants as input
 use Rattle.tree_specs.specs.declared.reply.Reply.{Reply}
-use Rattle.tree_specs.specs.Rules.Items.{Item}
-use Rattle.tree_specs.specs.Rules.Items.Item.{Told, Asked}
+use Rattle.tree_specs.specs.Rules.Items.Item.{Asked}
 use Rattle.tree_specs.specs.Texts.Schedule.{misfit}
 use Rattle.tree_specs.specs.Words.Ranges.{is_sound_call}
 use Rattle.tree_specs.specs.Machine.View.{View, begin, question_of, strays_of}
@@ -26,7 +25,7 @@ use Rattle.machine_driver.specs.Seen.{sight}
 use Rattle.tree_stories.specs.Sights.{sights_of}
 use Rattle.tree_stories.proofs.Outsides.{AsksOutside}
 use Rattle.host_core.specs.Promises as promises
-use Rattle.host_core.specs.Promises.{NextLaw, RepliesAtOnce, Waits}
+use Rattle.host_core.specs.Promises.{NextLaw, Waits}
 use Rattle.host_core.specs.Reaches.{IsOutside}
 use Rattle.service_rules.specs.declared.task.Run.TheVariants.{Own}
 use Rattle.service_rules.specs.declared.task.Task.{Task}
