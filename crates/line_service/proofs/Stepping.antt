@@ -3,6 +3,7 @@ use Rattle.std.proofs.Common.{◌≡◌, ℕ, zero, suc, ◌+◌, ◌*◌, lengt
 use Rattle.std.specs.Prelude.{nat_lt}
 use Rattle.tree_specs.specs.declared.call.Call.{Call}
 use Rattle.tree_specs.specs.declared.call.Call.TheVariants.{Turn}
+use Rattle.tree_specs.specs.Words.Objects.{first_context}
 use Rattle.tree_specs.specs.declared.event.Event.{Event}
 use Rattle.tree_specs.specs.declared.event.Event.TheVariants.{Replied}
 use Rattle.tree_specs.specs.declared.frame.Frame.{Frame}
@@ -109,14 +110,14 @@ finds s s' m h none asked low waits comes knows due host left =
 
 -- ---- the next turn begins
 
-pub turns : (s s' : StationView) → s.due ≡ None → s.knows.setup ≡ Complete → question_of s.host ≡ Some ask.Quiet → Waits s.host → Gives s.host s.left (input.Call Turn) s'.host s'.left → s'.knows ≡ s.knows → s'.due ≡ None → Shows [] s s'
+pub turns : (s s' : StationView) → s.due ≡ None → s.knows.setup ≡ Complete → question_of s.host ≡ Some ask.Quiet → Waits s.host → Gives s.host s.left (input.Call (Turn first_context)) s'.host s'.left → s'.knows ≡ s.knows → s'.due ≡ None → Shows [] s s'
 turns s s' none complete asked waits g knows none' =
     along [] s (at s.knows s.host (suc s'.left)) s' (at s.knows s'.host s'.left) (rebuilt s (suc s'.left) none g.counted) (rebuilt s' s'.left none' refl ∙ ap (λ (z : Knowledge). at z s'.host s'.left) knows)
-    (own-next s.knows s.knows s.host s'.host s'.left ask.Quiet (input.Call Turn) (opens s.host waits ask.Quiet asked) rests (takes s.host (input.Call Turn) s'.host ask.Quiet asked g.taken))
+    (own-next s.knows s.knows s.host s'.host s'.left ask.Quiet (input.Call (Turn first_context)) (opens s.host waits ask.Quiet asked) rests (takes s.host (input.Call (Turn first_context)) s'.host ask.Quiet asked g.taken))
   where
-    rests : own s.knows (opening s.host ask.Quiet) ≡ Some (input.Call Turn, s.knows)
+    rests : own s.knows (opening s.host ask.Quiet) ≡ Some (input.Call (Turn first_context), s.knows)
     rests = ap (λ (z : Setup). Some (input.Call (resting_call z), record s.knows { setup = further z })) complete
-        ∙ ap (λ (z : Setup). Some (input.Call Turn, record s.knows { setup = z })) (sym complete)
+        ∙ ap (λ (z : Setup). Some (input.Call (Turn first_context), record s.knows { setup = z })) (sym complete)
 
 -- ---- an event was told
 
