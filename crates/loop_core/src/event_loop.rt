@@ -4,30 +4,36 @@ use fd_events::{ReadyEvent, Ring};
 use immediates::Soon;
 use std::alloc::Global;
 use timers::Times;
-use tree_specs::{WAIT_LIMIT, Wants};
+use tree_specs::{Memory, Obj, WAIT_LIMIT, Wants};
 
-/// What an event loop has to do. It picks what comes next in a turn (`tevent_loop_once`), and runs nothing. A turn
-/// begins with `begin`; each answer that a pick asks for is handed in, until something comes or nothing does. No pick
-/// takes memory.
+/// What an event loop has to do in each of its contexts. It picks what comes next in a turn of a context
+/// (`tevent_loop_once`), and runs nothing. A turn begins with `begin`; each answer that a pick asks for is handed in, until
+/// something comes or nothing does. Only what waits in that context comes. No pick takes memory.
 #[derive(Drop)]
 pub struct Loop {
-    /// What comes soon, the first in first.
+    /// What comes soon, in each context the first in first.
     pub soon: Soon,
-    /// What comes at a time, the earliest first.
+    /// What comes at a time, in each context the earliest first.
     pub times: Times,
-    /// Events on descriptors, in the order in which they are looked at.
+    /// Events on descriptors, in each context in the order in which they are looked at.
     pub ring: Ring,
 }
 
 impl Loop {
-    ghost use Rattle.std.specs.Prelude.{◌≡◌, ◌≤◌, []};
+    ghost use Rattle.std.specs.Prelude.{◌≡◌, ◌≤◌, [], OnOk};
+    ghost use Rattle.tree_specs.specs.Events.Contexts.{with_context, without_context, KeepsContexts};
+    ghost use Rattle.tree_specs.specs.Events.Pending.{soon_in, soon_without, times_in, times_without};
+    ghost use Rattle.tree_specs.specs.Events.Rotation.{ring_in, ring_without};
     ghost use Rattle.loop_core.specs.Picks.{begin_pick, clock_pick, ready_pick, soon_after, times_after};
 
-    /// A loop that has nothing to do.
+    /// A loop that has nothing to do, with the first context alone.
     pub fn new(alloc: Global) -> Loop
-        ensures soon { result.soon.objects ≡ [] }
+        ensures soon { result.soon.coming ≡ [] }
+        ensures soon_contexts { result.soon.contexts ≡ [] }
         ensures times { result.times.dues ≡ [] }
+        ensures times_contexts { result.times.contexts ≡ [] }
         ensures ring { result.ring.watches ≡ [] }
+        ensures ring_contexts { result.ring.contexts ≡ [] }
     {
         Loop {
             soon: Soon::new(alloc),
@@ -36,20 +42,62 @@ impl Loop {
         }
     }
 
-    /// Begins a turn. What comes soon is picked first; where there is nothing, a first time of 0 has come, for any
-    /// other one the clock is asked, and with no time it is waited for descriptors.
-    pub fn begin(&mut self) -> Pick
-        ensures pick { result ≡ begin_pick self.old.soon.objects self.old.times.dues }
-        ensures soon { self.new.soon.objects ≡ soon_after result self.old.soon.objects }
+    /// Adds a context, in which nothing waits (`tevent_context_init`), and takes memory for it. One that is there stays as
+    /// it is. If memory runs out, some of the three may have it and the others not; no context is lost, and all that waits
+    /// is as it was.
+    pub fn add_context(&mut self, c: Obj) -> Result<(), Memory>
+        ensures soon { self.new.soon.coming ≡ self.old.soon.coming }
+        ensures soon_added { OnOk result (self.new.soon.contexts ≡ with_context self.old.soon.contexts c) }
+        ensures soon_kept { KeepsContexts self.old.soon.contexts self.new.soon.contexts }
+        ensures soon_spare { self.new.soon.spare ≡ self.old.soon.spare }
+        ensures times { self.new.times.dues ≡ self.old.times.dues }
+        ensures times_added { OnOk result (self.new.times.contexts ≡ with_context self.old.times.contexts c) }
+        ensures times_kept { KeepsContexts self.old.times.contexts self.new.times.contexts }
+        ensures times_spare { self.new.times.spare ≡ self.old.times.spare }
+        ensures ring { self.new.ring.watches ≡ self.old.ring.watches }
+        ensures ring_added { OnOk result (self.new.ring.contexts ≡ with_context self.old.ring.contexts c) }
+        ensures ring_kept { KeepsContexts self.old.ring.contexts self.new.ring.contexts }
+        ensures ring_spare { self.new.ring.spare ≡ self.old.ring.spare }
+    {
+        self.soon.add_context(c)?;
+        self.times.add_context(c)?;
+        self.ring.add_context(c)
+    }
+
+    /// Drops a context. Nothing comes in it any more: what was to come soon there, or at a time, is forgotten, and its
+    /// events on descriptors are lost. The first context stays, and nothing waits in it.
+    pub fn drop_context(&mut self, c: Obj)
+        ensures soon { self.new.soon.coming ≡ soon_without self.old.soon.coming c }
+        ensures soon_contexts { self.new.soon.contexts ≡ without_context self.old.soon.contexts c }
+        ensures soon_spare { self.old.soon.spare ≤ self.new.soon.spare }
+        ensures times { self.new.times.dues ≡ times_without self.old.times.dues c }
+        ensures times_contexts { self.new.times.contexts ≡ without_context self.old.times.contexts c }
+        ensures times_spare { self.old.times.spare ≤ self.new.times.spare }
+        ensures ring { self.new.ring.watches ≡ ring_without self.old.ring.watches c }
+        ensures ring_contexts { self.new.ring.contexts ≡ without_context self.old.ring.contexts c }
+        ensures ring_spare { self.old.ring.spare ≤ self.new.ring.spare }
+    {
+        self.soon.drop_context(c);
+        self.times.drop_context(c);
+        self.ring.drop_context(c);
+    }
+
+    /// Begins a turn of a context. What comes soon is picked first; where there is nothing, a first time of 0 has come, for
+    /// any other one the clock is asked, and with no time it is waited for descriptors.
+    pub fn begin(&mut self, c: Obj) -> Pick
+        ensures pick { result ≡ begin_pick (soon_in self.old.soon.coming c) (times_in self.old.times.dues c) }
+        ensures soon { self.new.soon.coming ≡ soon_after result self.old.soon.coming }
+        ensures soon_contexts { self.new.soon.contexts ≡ self.old.soon.contexts }
         ensures times { self.new.times.dues ≡ times_after result self.old.times.dues }
+        ensures times_contexts { self.new.times.contexts ≡ self.old.times.contexts }
         ensures ring { self.new.ring ≡ self.old.ring }
         ensures soon_spare { self.old.soon.spare ≤ self.new.soon.spare }
         ensures times_spare { self.old.times.spare ≤ self.new.times.spare }
     {
-        if let Some(x) = self.soon.pop() {
+        if let Some(x) = self.soon.pop(c) {
             return Pick::Soon(x);
         }
-        let Some(due) = self.times.first() else {
+        let Some(due) = self.times.first(c) else {
             return Pick::AskWait(WAIT_LIMIT);
         };
         if due.time != 0 {
@@ -61,14 +109,15 @@ impl Loop {
 
     /// Goes on once the clock has told the time, in microseconds, after a pick that asked for it. A first time that has
     /// come is picked. For one that hasn't it is waited, where this turn has not `waited` before.
-    pub fn clock(&mut self, now: u64, waited: bool) -> Pick
-        ensures pick { result ≡ clock_pick waited now self.old.times.dues }
+    pub fn clock(&mut self, c: Obj, now: u64, waited: bool) -> Pick
+        ensures pick { result ≡ clock_pick waited now (times_in self.old.times.dues c) }
         ensures soon { self.new.soon ≡ self.old.soon }
         ensures times { self.new.times.dues ≡ times_after result self.old.times.dues }
+        ensures times_contexts { self.new.times.contexts ≡ self.old.times.contexts }
         ensures ring { self.new.ring ≡ self.old.ring }
         ensures times_spare { self.old.times.spare ≤ self.new.times.spare }
     {
-        let Some(due) = self.times.first() else {
+        let Some(due) = self.times.first(c) else {
             return Pick::Nothing;
         };
         if due.time <= now {
@@ -82,15 +131,15 @@ impl Loop {
     }
 
     /// Picks what comes when these descriptors are ready, after a pick that asked for them. Where none is, the first
-    /// time may have come. Otherwise the first event is picked that waits for what its descriptor is ready for. It
-    /// stays where it is: who runs its handler puts it at the end.
-    pub fn ready(&self, list: &Wants) -> Pick
-        ensures { result ≡ ready_pick list.now self.now.times.dues self.now.ring.watches }
+    /// time may have come. Otherwise the first event of the context is picked that waits for what its descriptor is ready
+    /// for. It stays where it is: who runs its handler puts it at the end.
+    pub fn ready(&self, c: Obj, list: &Wants) -> Pick
+        ensures { result ≡ ready_pick list.now (times_in self.now.times.dues c) (ring_in self.now.ring.watches c) }
     {
-        if list.as_slice().is_empty() && !self.times.is_empty() {
+        if list.as_slice().is_empty() && !self.times.is_empty(c) {
             return Pick::AskClock;
         }
-        match self.ring.first_ready(list) {
+        match self.ring.first_ready(c, list) {
             Some(ReadyEvent { object, flags }) => Pick::Descriptor(object, flags),
             None => Pick::Nothing,
         }

@@ -1,5 +1,5 @@
 -- The event contexts that there are: the first one, and a list of the others.
-use Rattle.std.specs.Prelude.{Bool, ◌||◌, not, is_some, if◌then◌else◌, List, ◌∷◌}
+use Rattle.std.specs.Prelude.{◌≡◌, Bool, true, ◌||◌, not, is_some, if◌then◌else◌, List, ◌∷◌}
 use Rattle.std.specs.List.{find, filter}
 use Rattle.tree_specs.specs.declared.object.Obj.{Obj}
 use Rattle.tree_specs.specs.Words.Objects.{same, first_context}
@@ -13,3 +13,7 @@ with_context cs c = if has_context cs c then cs else c ∷ cs
 
 abbrev pub without_context : List Obj → Obj → List Obj
 without_context cs c = filter (λ d. not (same d c)) cs
+
+-- each context that was there still is
+abbrev pub KeepsContexts : List Obj → List Obj → Type 0
+KeepsContexts before after = (c : Obj) → has_context before c ≡ true → has_context after c ≡ true
