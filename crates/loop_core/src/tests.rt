@@ -32,7 +32,10 @@ fn a_time_is_waited_for_once(rt: HostRuntime) -> Result<(), Fail> {
     assert_eq!(rt; events.begin(FIRST), Pick::AskClock);
     assert_eq!(rt; events.clock(FIRST, 60, false), Pick::AskWait(40));
     let none = Wants::make(Vec::new(rt.alloc()));
-    assert_eq!(rt; none.map(|none| events.ready(FIRST, &none)), Some(Pick::AskClock));
+    assert_eq!(rt;
+        none.map(|none| events.ready(FIRST, &none)),
+        Some(Pick::AskClock)
+    );
     assert_eq!(rt; events.clock(FIRST, 99, true), Pick::Nothing);
     assert_eq!(rt; events.clock(FIRST, 100, true), Pick::Time(Obj(2), 100));
     assert_eq!(rt; events.clock(FIRST, 100, true), Pick::Nothing);
@@ -85,7 +88,10 @@ fn in_two_contexts(rt: &HostRuntime) -> Result<Loop, Fail> {
 fn a_turn_is_that_of_one_context(rt: HostRuntime) -> Result<(), Fail> {
     let mut events = in_two_contexts(&rt)?;
     assert_eq!(rt; picked(rt.alloc(), &events, FIRST, 1)?, Some(Pick::Nothing));
-    assert_eq!(rt; picked(rt.alloc(), &events, Obj(9), 1)?, Some(Pick::Descriptor(Obj(3), 1)));
+    assert_eq!(rt;
+        picked(rt.alloc(), &events, Obj(9), 1)?,
+        Some(Pick::Descriptor(Obj(3), 1))
+    );
     assert_eq!(rt; events.begin(Obj(9)), Pick::Soon(Obj(11)));
     assert_eq!(rt; events.begin(Obj(9)), Pick::AskClock);
     assert_eq!(rt; events.clock(FIRST, 60, true), Pick::Nothing);
@@ -100,7 +106,10 @@ fn nothing_comes_in_a_context_that_is_dropped(rt: HostRuntime) -> Result<(), Fai
     let mut events = in_two_contexts(&rt)?;
     events.drop_context(Obj(9));
     assert_eq!(rt; events.begin(Obj(9)), Pick::AskWait(30_000_000));
-    assert_eq!(rt; picked(rt.alloc(), &events, Obj(9), 1)?, Some(Pick::Nothing));
+    assert_eq!(rt;
+        picked(rt.alloc(), &events, Obj(9), 1)?,
+        Some(Pick::Nothing)
+    );
     assert_eq!(rt; events.begin(FIRST), Pick::Soon(Obj(1)));
     assert_eq!(rt; events.clock(FIRST, 100, true), Pick::Time(Obj(2), 100));
     Ok(())
