@@ -1,6 +1,6 @@
 //! The heaps of all contexts, each under the number of its context. That of the first context, which has the number 0,
 //! stands in place, so that whoever needs no other one looks nothing up and takes no memory for it.
-ghost use Rattle.std.specs.Prelude.{◌≡◌, ◌<◌, ◌≤◌, ℕ, [], false, true, nat_eq, None, OnOk, OnErr, is_some, length, option_copied, slice_get, vec_capacity, vec_len};
+ghost use Rattle.std.specs.Prelude.{◌≡◌, ◌-◌, ◌<◌, ◌≤◌, ℕ, [], false, true, nat_eq, None, OnOk, OnErr, is_some, length, option_copied, slice_get, vec_capacity, vec_len};
 ghost use Rattle.std.specs.FinMap as map;
 ghost use Rattle.timers.specs.Heaps.{CanEnter, CanLeave, IsAdded, IsEntered, IsLeft, dues_in, heap_of, is_open, items_of, room_in, room_of};
 
@@ -107,6 +107,13 @@ impl Heaps {
         ensures { result ≡ slice_get (dues_in self.now c) 0 }
     {
         Some(*self.get(c)?.first()?)
+    }
+
+    /// The time in the last place of the heap of a context. None exactly where there is none.
+    pub fn last(&self, c: u64) -> Option<Due>
+        ensures { result ≡ slice_get (dues_in self.now c) (length (dues_in self.now c) - 1) }
+    {
+        Some(*self.get(c)?.last()?)
     }
 
     /// How many times a context has.

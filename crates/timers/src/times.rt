@@ -46,7 +46,7 @@ impl Model for Times {
 }
 
 impl Times {
-    ghost use Rattle.std.specs.Prelude.{◌<◌, ◌≤◌, ◌↔◌, [], IsTrue, OnOk, OnErr, length, slice_get, drop, false, true};
+    ghost use Rattle.std.specs.Prelude.{◌<◌, ◌≤◌, ◌↔◌, [], IsTrue, None, IfSome, OnOk, OnErr, length, slice_get, drop, false, true};
     ghost use Rattle.tree_specs.specs.Events.Pending.{armed, disarmed, is_armed, is_numbered, put_in, times_in, times_without};
     ghost use Rattle.tree_specs.specs.Events.Contexts.{has_context, with_context, without_context};
     ghost use Rattle.timers.specs.Timetable.{AreInOrder, AreOnce, left_after};
@@ -173,6 +173,15 @@ impl Times {
         first
     }
 
+    /// An object whose time in a context leaves in one step. None exactly where there is none.
+    fn last(&self, c: Obj) -> Option<Obj>
+        ensures armed { IfSome result (λ x. is_armed (times_in self.now.dues c) x ≡ true) }
+        ensures none { result ≡ None → times_in self.now.dues c ≡ [] }
+        ensures once { AreOnce self.now.dues }
+    {
+        Some(self.heaps.last(c.0)?.object)
+    }
+
     /// Takes out all times of a context.
     fn clear(&mut self, c: Obj)
         ensures dues { self.new.dues ≡ times_without self.old.dues c }
@@ -180,8 +189,8 @@ impl Times {
         ensures contexts { self.new.contexts ≡ self.old.contexts }
         ensures spare { self.old.spare ≤ self.new.spare }
     {
-        while !self.is_empty(c) {
-            self.pop(c);
+        while let Some(x) = self.last(c) {
+            self.disarm(x);
         }
     }
 
@@ -196,7 +205,8 @@ impl Times {
         self.changes = self.changes.and(&Change::Closes(c), &());
     }
 
-    /// Drops a context, and all its times. The first context stays, and has no times.
+    /// Drops a context, and all its times. The first context stays, and has no times. It takes the time of the times of
+    /// this context.
     pub fn drop_context(&mut self, c: Obj)
         ensures dues { self.new.dues ≡ times_without self.old.dues c }
         ensures contexts { self.new.contexts ≡ without_context self.old.contexts c }
