@@ -4,10 +4,10 @@ use Rattle.timers.proofs.times.Times.clear.Given as goal
 
 abbrev pub invariant-loop-x : goal.invariant-loop-x
 invariant-loop-x l = record {
-  elsewhere : times_without l.self.dues l.c ≡ times_without l.fn.self.dues l.c;
+  elsewhere : times_without l.self.dues l.fn.c ≡ times_without l.fn.self.dues l.fn.c;
   contexts : l.self.contexts ≡ l.fn.self.contexts;
   spare : l.fn.self.spare ≤ l.self.spare;
 }
 
 abbrev pub decreases-loop-x : goal.decreases-loop-x
-decreases-loop-x l = length (times_in l.self.dues l.c)
+decreases-loop-x l = length (times_in l.self.dues l.fn.c)
