@@ -7,7 +7,7 @@ use Rattle.clap.specs.Simple.{App, Shape, built, built_leaf, filled, help_shape,
 use Rattle.clap.specs.declared.builder.value_parser.ValueParser.{ValueParser}
 use Rattle.clap.specs.declared.builder.value_parser.ValueParser.TheVariants as parsers
 use Rattle.clap.specs.declared.parser.matches.ValueSource.TheVariants.{CommandLine}
-use Rattle.command_words.specs.CommandLine.{audit_app, command_line, replay_app, required_rule}
+use Rattle.command_words.specs.CommandLine.{audit_app, command_line, convert_app, replay_app, required_rule}
 
 abbrev pub line_built : App
 line_built = built command_line
@@ -18,6 +18,9 @@ subcommand_built a = built_leaf (inherited (with_leaf_noted (marked_built comman
 
 abbrev pub replay_built : Shape
 replay_built = subcommand_built replay_app
+
+abbrev pub convert_built : Shape
+convert_built = subcommand_built convert_app
 
 abbrev pub audit_built : Shape
 audit_built = subcommand_built audit_app

@@ -12,7 +12,7 @@ use Rattle.clap.specs.Simple.{Shape, entered, names_of, rows_at, subcommand_of}
 use Rattle.clap.specs.Faults.{check_fault, defaults_fault, entered_fault, fault_of, level_fault, settle_fault, walk_fault}
 use Rattle.clap.proofs.SimpleLemmas.{is_nil}
 use Rattle.command_words.specs.CommandLine.{Asked, command_line, command_of, is_taken, named_command}
-use Rattle.command_words.proofs.BuiltLine.{audit_built, help_built, line_built, load_built, replay_built, serve_built}
+use Rattle.command_words.proofs.BuiltLine.{audit_built, convert_built, help_built, line_built, load_built, replay_built, serve_built}
 use Rattle.command_words.proofs.LevelLaws.{both_pass}
 use Rattle.command_words.proofs.ReadLaws.{load_is_read, serve_is_read}
 use Rattle.command_words.proofs.NumberLaws.{by_test}
@@ -28,24 +28,26 @@ no_subcommand : (rows : List Row) → check_fault line_built.top rows false ≢ 
 no_subcommand rows e = missing (list_any (λ (r : Row). explicit_source r.source) rows) false e
 
 -- the subcommand, by which of their names was met
-abbrev chosen : Bool → Bool → Bool → Bool → Bool → Option Shape
-chosen is_replay is_audit is_serve is_load is_help =
+abbrev chosen : Bool → Bool → Bool → Bool → Bool → Bool → Option Shape
+chosen is_replay is_convert is_audit is_serve is_load is_help =
     cond is_replay (Some replay_built)
+    (cond is_convert (Some convert_built)
     (cond is_audit (Some audit_built)
-    (cond is_serve (Some serve_built) (cond is_load (Some load_built) (cond is_help (Some help_built) None))))
+    (cond is_serve (Some serve_built) (cond is_load (Some load_built) (cond is_help (Some help_built) None)))))
 
 -- a subcommand that takes the words and isn't `help` is a command
-chosen_is_named : (is_replay is_audit is_serve is_load is_help : Bool) (words : List Text) (rows : List Row) → is_help ≡ false
-    → option_map_or (λ s. level_fault s [] nothing_held words false []) (chosen is_replay is_audit is_serve is_load is_help) [] ≡ []
+chosen_is_named : (is_replay is_convert is_audit is_serve is_load is_help : Bool) (words : List Text) (rows : List Row) → is_help ≡ false
+    → option_map_or (λ s. level_fault s [] nothing_held words false []) (chosen is_replay is_convert is_audit is_serve is_load is_help) [] ≡ []
     → check_fault line_built.top rows
-    (is_some (option_map (λ s. rows_at s words) (chosen is_replay is_audit is_serve is_load is_help))) ≡ []
-    → is_some (named_command (option_map (λ s. rows_at s words) (chosen is_replay is_audit is_serve is_load is_help))) ≡ true
-chosen_is_named true is_audit is_serve is_load is_help words rows no_help below check = refl
-chosen_is_named false true is_serve is_load is_help words rows no_help below check = refl
-chosen_is_named false false true is_load is_help words rows no_help below check = serve_is_read words below
-chosen_is_named false false false true is_help words rows no_help below check = load_is_read words below
-chosen_is_named false false false false true words rows no_help below check = absurd cc
-chosen_is_named false false false false false words rows no_help below check = absurd (no_subcommand rows check)
+    (is_some (option_map (λ s. rows_at s words) (chosen is_replay is_convert is_audit is_serve is_load is_help))) ≡ []
+    → is_some (named_command (option_map (λ s. rows_at s words) (chosen is_replay is_convert is_audit is_serve is_load is_help))) ≡ true
+chosen_is_named true is_convert is_audit is_serve is_load is_help words rows no_help below check = refl
+chosen_is_named false true is_audit is_serve is_load is_help words rows no_help below check = refl
+chosen_is_named false false true is_serve is_load is_help words rows no_help below check = refl
+chosen_is_named false false false true is_load is_help words rows no_help below check = serve_is_read words below
+chosen_is_named false false false false true is_help words rows no_help below check = load_is_read words below
+chosen_is_named false false false false false true words rows no_help below check = absurd cc
+chosen_is_named false false false false false false words rows no_help below check = absurd (no_subcommand rows check)
 
 -- where the name isn't `help`, `help` isn't the name
 not_help : (name : Text) → bytes_eq name (codes "help") ≡ false → (bytes_eq (codes "help") name || false) ≡ false
@@ -62,11 +64,12 @@ stop_is_named : (stop : Option (Text × List Text)) (rows : List Row) → is_at_
 stop_is_named None rows other below check = absurd (no_subcommand rows check)
 stop_is_named (Some p) rows other below check =
     let is_replay = bytes_eq (codes "replay") p.0 || false in
+    let is_convert = bytes_eq (codes "convert") p.0 || false in
     let is_audit = bytes_eq (codes "audit") p.0 || false in
     let is_serve = bytes_eq (codes "serve") p.0 || false in
     let is_load = bytes_eq (codes "load") p.0 || false in
     let is_help = bytes_eq (codes "help") p.0 || false in
-    chosen_is_named is_replay is_audit is_serve is_load is_help p.1 rows (not_help p.0 other) below check
+    chosen_is_named is_replay is_convert is_audit is_serve is_load is_help p.1 rows (not_help p.0 other) below check
 
 -- words that aren't refused name a command
 line_is_named : (words : List Text) → fault_of command_line words ≡ []

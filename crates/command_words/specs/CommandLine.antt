@@ -25,6 +25,9 @@ number_rule name least most = required_rule name (parsers.Signed (pos least) (po
 abbrev pub replay_app : App
 replay_app = new_app (codes "replay")
 
+abbrev pub convert_app : App
+convert_app = new_app (codes "convert")
+
 abbrev pub audit_app : App
 audit_app = new_app (codes "audit")
 
@@ -39,19 +42,23 @@ abbrev pub top_app : App
 top_app = on_top (λ s. record s { no_binary_name = true; arg_required_else_help = true; subcommand_required = true }) (new_app (codes "tvhost"))
 
 abbrev pub command_line : App
-command_line = with_subcommand (with_subcommand (with_subcommand (with_subcommand top_app replay_app.top) audit_app.top) serve_app.top) load_app.top
+command_line =
+    with_subcommand (with_subcommand (with_subcommand (with_subcommand (with_subcommand top_app replay_app.top) convert_app.top) audit_app.top) serve_app.top)
+    load_app.top
 
 -- ---- what words ask for
 
 -- a command, whose path is a text wherever it lies
 pub data Asked : Type 0 where
   Replay : Asked
+  Convert : Asked
   Audit : Asked
   Serve : Text → ℕ → Asked
   Load : ℕ → ℕ → Asked
 
 abbrev pub asked_by : Command → Asked
 asked_by commands.Replay = Replay
+asked_by commands.Convert = Convert
 asked_by commands.Audit = Audit
 asked_by (commands.Serve path answers) = Serve path.now answers
 asked_by (commands.Load number count) = Load number count
@@ -89,8 +96,9 @@ abbrev pub named_command : Option (Text × List Row) → Option Asked
 named_command None = None
 named_command (Some p) =
     if bytes_eq p.0 (codes "replay") then Some Replay
+    else (if bytes_eq p.0 (codes "convert") then Some Convert
     else (if bytes_eq p.0 (codes "audit") then Some Audit
-    else (if bytes_eq p.0 (codes "serve") then serve_in p.1 else load_in p.1))
+    else (if bytes_eq p.0 (codes "serve") then serve_in p.1 else load_in p.1)))
 
 -- the command that the words name, which follow the program's name; none where they aren't taken
 abbrev pub command_of : List Text → Option Asked

@@ -11,6 +11,8 @@ pub const COUNT_LIMIT: u32 = 1_000_000;
 pub enum Command<'a> {
     /// The schedule that is read is to be replayed.
     Replay,
+    /// The schedule that is read is to be written in version 2.
+    Convert,
     /// The transcript that is read is to be audited.
     Audit,
     /// Lines are to be served at a Unix socket, and the schedule that was served is to be written. The socket is made at

@@ -3,11 +3,12 @@
 
 ghost use Rattle.std.specs.Prelude.{◌≡◌, codes, Some, None, [], ◌∷◌};
 ghost use Rattle.command_words.specs.CommandLine.{command_of};
-ghost use Rattle.command_words.specs.CommandLine.Asked.{Replay, Audit, Serve, Load};
+ghost use Rattle.command_words.specs.CommandLine.Asked.{Replay, Convert, Audit, Serve, Load};
 
 /// These words are taken.
 pub fn words_name_commands()
     ensures replay { command_of (codes "replay" ∷ []) ≡ Some Replay }
+    ensures convert { command_of (codes "convert" ∷ []) ≡ Some Convert }
     ensures audit { command_of (codes "audit" ∷ []) ≡ Some Audit }
     ensures serve { command_of (codes "serve" ∷ codes "p" ∷ codes "3" ∷ []) ≡ Some (Serve (codes "p") 3) }
     ensures most_answers { command_of (codes "serve" ∷ codes "p" ∷ codes "1000000000" ∷ []) ≡ Some (Serve (codes "p") 1000000000) }
@@ -23,6 +24,7 @@ pub fn words_are_refused()
     ensures help_word { command_of (codes "help" ∷ []) ≡ None }
     ensures other { command_of (codes "reply" ∷ []) ≡ None }
     ensures one_more { command_of (codes "replay" ∷ codes "now" ∷ []) ≡ None }
+    ensures convert_to_a_version { command_of (codes "convert" ∷ codes "2" ∷ []) ≡ None }
     ensures audit_of_a_file { command_of (codes "audit" ∷ codes "run.transcript" ∷ []) ≡ None }
     ensures no_answers { command_of (codes "serve" ∷ codes "p" ∷ []) ≡ None }
     ensures zero_answers { command_of (codes "serve" ∷ codes "p" ∷ codes "0" ∷ []) ≡ None }

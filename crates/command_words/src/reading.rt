@@ -119,6 +119,11 @@ fn command_line<'a>(alloc: Global) -> Result<clap::Command<'a>, AllocError>
         "replay",
         "Reads a schedule from standard input, and writes its transcript",
     );
+    let convert = command(
+        alloc,
+        "convert",
+        "Reads a schedule of either version from standard input, and writes it in version 2",
+    );
     let audit = command(
         alloc,
         "audit",
@@ -128,6 +133,7 @@ fn command_line<'a>(alloc: Global) -> Result<clap::Command<'a>, AllocError>
     let load = load(alloc)?;
     top(alloc)?
         .subcommand(replay)?
+        .subcommand(convert)?
         .subcommand(audit)?
         .subcommand(serve)?
         .subcommand(load)
@@ -186,6 +192,7 @@ fn command_met<'a>(matches: &ArgMatches<'a>) -> Option<Command<'a>>
     let (name, fields) = matches.subcommand()?;
     match name {
         "replay" => Some(Command::Replay),
+        "convert" => Some(Command::Convert),
         "audit" => Some(Command::Audit),
         "serve" => serve_in(fields),
         _ => load_in(fields),

@@ -19,11 +19,12 @@ const HELP: &str =
 Usage: tvhost <COMMAND>
 
 Commands:
-  replay  Reads a schedule from standard input, and writes its transcript
-  audit   Reads a transcript from standard input, and says whether its story is orderly
-  serve   Serves lines at a Unix socket, and writes the schedule that it served
-  load    Replays a schedule made from a number, and writes a summary
-  help    Print this message or the help of the given subcommand(s)
+  replay   Reads a schedule from standard input, and writes its transcript
+  convert  Reads a schedule of either version from standard input, and writes it in version 2
+  audit    Reads a transcript from standard input, and says whether its story is orderly
+  serve    Serves lines at a Unix socket, and writes the schedule that it served
+  load     Replays a schedule made from a number, and writes a summary
+  help     Print this message or the help of the given subcommand(s)
 
 Options:
   -h, --help  Print help
@@ -75,6 +76,7 @@ fn a_person_is_told_what_to_type(rt: HostRuntime) -> Result<(), Fail> {
     assert_eq!(rt; said(&rt, &["load", "1"])?.as_str(), NO_COUNT);
     assert_eq!(rt; said(&rt, &["load", "1", "1000001"])?.as_str(), LARGE);
     assert_eq!(rt; said(&rt, &["replay"])?.as_str(), "");
+    assert_eq!(rt; said(&rt, &["convert"])?.as_str(), "");
     assert_eq!(rt; said(&rt, &["audit"])?.as_str(), "");
     Ok(())
 }

@@ -10,8 +10,6 @@ mod kinds;
 pub mod laws;
 mod motion;
 mod moves;
-#[cfg(test)]
-mod tests;
 mod works;
 
 pub use engine::FreeEngine;

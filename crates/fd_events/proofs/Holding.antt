@@ -89,6 +89,18 @@ watch-fd (v ∷ vs) x w d e = by_test (same v.object x)
     (λ u. not_both (ap is_some ih) (ap (λ n. is_some (by_fd vs n)) (sym (eqb-true v.fd w.fd u)) ∙ d.0))
     (λ u. rw u ih))
 
+-- the event that watches a descriptor
+pub holder-watch : (ws : List Watch) (fd : ℕ) (w : Watch) → AreEventsOnce ws → by_fd ws fd ≡ Some w → watch_of ws w.object ≡ Some w
+holder-watch [] fd w a e = cc
+holder-watch (v ∷ vs) fd w a e = by_test (nat_eq v.fd fd)
+    (λ t. let e' : Some v ≡ Some w = rw t at e in let is : v ≡ w = cc in
+    let u : same v.object w.object ≡ true = ap (λ (z : Watch). same z.object w.object) is ∙ eqb-self w.object.0 in rw u e')
+    (λ t. let e' : by_fd vs fd ≡ Some w = rw t at e in
+    let ih = holder-watch vs fd w a.1 e' in
+    by_test (same v.object w.object)
+    (λ u. not_both (ap is_some ih) (ap (is_watching vs) (sym (same-true v.object w.object u)) ∙ a.0))
+    (λ u. rw u ih))
+
 pub unwatched-none : (ws : List Watch) (x : Obj) → is_watching ws x ≡ false → unwatched ws x ≡ ws
 unwatched-none [] x e = refl
 unwatched-none (v ∷ vs) x e = by_test (same v.object x)

@@ -8,16 +8,17 @@ use Rattle.pool_arena.specs.Arena.{Held}
 use Rattle.tree_specs.specs.declared.watch.Watch.{Watch}
 use Rattle.tree_specs.specs.Events.Rotation.{watch_of, is_watching, is_watched, unwatched, rewatched, turned_back, behind_all}
 use Rattle.linked_lanes.specs.Lane.{has, without}
-use Rattle.linked_lanes.specs.Chain.{Chain, sides_in}
+use Rattle.linked_lanes.specs.Chain.{sides_in}
 use Rattle.linked_lanes.proofs.Lanes.{by_test, eqb-self, has-without-other, has-without-same, length-without}
 use Rattle.linked_lanes.proofs.Chains.{kept_chain}
 use Rattle.linked_lanes.proofs.Ends.{chain-walk}
 use Rattle.fd_events.specs.declared.node.Node.{Node}
 use Rattle.fd_events.specs.declared.lane.Lane.{Lane}
 use Rattle.fd_events.specs.Rotation.{AreEventsOnce}
-use Rattle.fd_events.specs.Linked.{numbered, sides_of, sides_at, watch_at, watching, is_there, listed_one, listed, numbers_in, watches_in, IsLane, AreHolders, IsLinked}
-use Rattle.fd_events.proofs.Nodes.{tells, sides-put, watch-put, read-changed, read-same}
+use Rattle.fd_events.specs.Linked.{numbered, sides_of, stamp_of, sides_at, stamp_at, watch_at, watching, is_there, listed_one, listed, numbers_in, watches_in, IsLane, AreHolders, IsLinked}
+use Rattle.fd_events.proofs.Nodes.{tells, sides-put, stamp-put, watch-put, read-changed, read-same}
 use Rattle.fd_events.proofs.Holding.{holders-added, holders-gone, holders-changed, holders-turned, is-free}
+use Rattle.fd_events.proofs.Stamps.{fall-same}
 use Rattle.fd_events.proofs.Listing.{others, listed-same, listed-added, listed-watch, listed-without, listed-changed, listed-once, listed-length}
 
 -- the fields keep this lane and this list
@@ -47,11 +48,14 @@ keeps-linked l h xs ws k =
       noted = subst (AreHolders (map.get h)) (sym (watches-kept l (map.get h) xs ws k)) k.holders;
     }
 
-same-lane : (l l' : Lane) (xs : List ℕ) → l'.newest ≡ l.newest → l'.oldest ≡ l.oldest → ((q : ℕ) → has xs q ≡ true → sides_at l'.nodes.pairs q ≡ sides_at l.nodes.pairs q) → IsLane l xs → IsLane l' xs
-same-lane l l' xs newest oldest same k = record {
+-- other nodes that have the same places
+same-lane : (l : Lane) (n : Held Node) (xs : List ℕ) → ((q : ℕ) → has xs q ≡ true → sides_at n.pairs q ≡ sides_at l.nodes.pairs q)
+    → ((q : ℕ) → has xs q ≡ true → stamp_at n.pairs q ≡ stamp_at l.nodes.pairs q) → IsLane l xs → IsLane (record l { nodes = n }) xs
+same-lane l n xs same stamps k = record {
   distinct = k.distinct;
-  chain = subst (λ h. Chain (sides_at l'.nodes.pairs) h xs) (sym newest) (kept_chain (sides_at l.nodes.pairs) (sides_at l'.nodes.pairs) l.newest xs same k.chain);
-  at_last = oldest ∙ k.at_last;
+  chain = kept_chain (sides_at l.nodes.pairs) (sides_at n.pairs) l.newest xs same k.chain;
+  at_last = k.at_last;
+  stamps = λ b. fall-same (stamp_at l.nodes.pairs) (stamp_at n.pairs) l.next_stamp xs stamps (k.stamps b);
 }
 
 module _ (l : Lane) (F : ℕ → Option ℕ) (xs : List ℕ) (ws : List Watch) (k : Keeps l F xs ws) where
@@ -106,7 +110,8 @@ module _ (l : Lane) (F : ℕ → Option ℕ) (xs : List ℕ) (ws : List Watch) (
       pub keeps-added : Keeps l2 F' (x ∷ xs) (ws ++ watching x v ∷ [])
       keeps-added = record {
         lane = joined
-            (same-lane l (record l { nodes = n1 }) xs refl refl (λ q m. sides-put l.nodes.pairs n1.pairs x (Some v) added q (others xs x q (absent new) m)) k.lane)
+            (same-lane l n1 xs (λ q m. sides-put l.nodes.pairs n1.pairs x (Some v) added q (others xs x q (absent new) m))
+            (λ q m. stamp-put l.nodes.pairs n1.pairs x (Some v) added q (others xs x q (absent new) m)) k.lane)
             (absent new) (ap is_some (watch-put l.nodes.pairs n1.pairs x (Some v) added x) ∙ rw (eqb-self x) refl);
         held = λ q. ap is_some (now-added q) ∙ by_test (nat_eq x q) (λ t. rw t refl) (λ t. rw t (k.held q));
         count = let c = k.count in omega (arith, len, more, c);
@@ -129,7 +134,8 @@ module _ (l : Lane) (F : ℕ → Option ℕ) (xs : List ℕ) (ws : List Watch) (
 
         pub keeps-gone : Keeps (record l1 { nodes = n2 }) F' (without xs x) (unwatched ws (numbered x))
         keeps-gone = record {
-          lane = same-lane l1 (record l1 { nodes = n2 }) (without xs x) refl refl (λ q m. sides-put l1.nodes.pairs n2.pairs x None taken q (others (without xs x) x q gone m)) left;
+          lane = same-lane l1 n2 (without xs x) (λ q m. sides-put l1.nodes.pairs n2.pairs x None taken q (others (without xs x) x q gone m))
+              (λ q m. stamp-put l1.nodes.pairs n2.pairs x None taken q (others (without xs x) x q gone m)) left;
           held = λ q. ap is_some (now-gone q) ∙ by_test (nat_eq x q)
               (λ t. rw t (sym (ap (has (without xs x)) (sym (eqb-true x q t)) ∙ gone)))
               (λ t. rw t (k.held q ∙ sym (has-without-other xs x q t)));
@@ -162,7 +168,7 @@ module _ (l : Lane) (F : ℕ → Option ℕ) (xs : List ℕ) (ws : List Watch) (
 
     -- ---- watching otherwise
 
-    module _ (n1 : Held Node) (g : Node → Node) (f : Watch → Watch) (sides : (v : Node) → (g v).sides ≡ v.sides) (watches : (q : ℕ) (v : Node) → watching q (g v) ≡ f (watching q v))
+    module _ (n1 : Held Node) (g : Node → Node) (f : Watch → Watch) (sides : (v : Node) → (g v).sides ≡ v.sides) (stamps : (v : Node) → (g v).stamp ≡ v.stamp) (watches : (q : ℕ) (v : Node) → watching q (g v) ≡ f (watching q v))
         (fds : (w : Watch) → (f w).fd ≡ w.fd) (objects : (w : Watch) → (f w).object ≡ w.object)
         (changed : (q : ℕ) → map.get n1.pairs q ≡ cond (nat_eq x q) (option_map g (map.get l.nodes.pairs q)) (map.get l.nodes.pairs q)) (len : map.len n1.pairs ≡ map.len l.nodes.pairs) where
       now-changed : (q : ℕ) → watch_at n1.pairs q ≡ cond (nat_eq x q) (option_map f (watch_at l.nodes.pairs q)) (watch_at l.nodes.pairs q)
@@ -170,7 +176,8 @@ module _ (l : Lane) (F : ℕ → Option ℕ) (xs : List ℕ) (ws : List Watch) (
 
       pub keeps-changed : Keeps (record l { nodes = n1 }) F xs (rewatched f ws (numbered x))
       keeps-changed = record {
-        lane = same-lane l (record l { nodes = n1 }) xs refl refl (λ q m. ap (option_map sides_of) (changed q) ∙ read-same sides_of g sides (nat_eq x q) (map.get l.nodes.pairs q)) k.lane;
+        lane = same-lane l n1 xs (λ q m. ap (option_map sides_of) (changed q) ∙ read-same sides_of g sides (nat_eq x q) (map.get l.nodes.pairs q))
+            (λ q m. ap (option_map stamp_of) (changed q) ∙ read-same stamp_of g stamps (nat_eq x q) (map.get l.nodes.pairs q)) k.lane;
         held = λ q. ap is_some (now-changed q) ∙ still (nat_eq x q) (watch_at l.nodes.pairs q) ∙ k.held q;
         count = len ∙ k.count;
         list = listed-changed (watch_at l.nodes.pairs) (tells l.nodes.pairs) f (watch_at n1.pairs) x xs now-changed ∙ ap (λ us. rewatched f us (numbered x)) k.list;

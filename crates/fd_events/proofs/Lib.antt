@@ -1,6 +1,10 @@
 pub mod Nodes
 pub mod Holding
 pub mod Listing
+pub mod Stamps
 pub mod Keeping
 pub mod Walking
 pub mod Searching
+pub mod Soonest
+pub mod Growing
+pub mod Stamped

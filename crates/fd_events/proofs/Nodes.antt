@@ -10,13 +10,13 @@ use Rattle.linked_lanes.specs.declared.Link.{Link}
 use Rattle.linked_lanes.specs.Chain.{noted}
 use Rattle.linked_lanes.proofs.Lanes.{by_test}
 use Rattle.fd_events.specs.declared.node.Node.{Node}
-use Rattle.fd_events.specs.Linked.{numbered, sides_at, watch_at, watching}
+use Rattle.fd_events.specs.Linked.{numbered, sides_of, stamp_of, sides_at, stamp_at, watch_at, watching}
 
 abbrev pub with_link : Link → Node → Node
 with_link link v = record v { sides = noted link v.sides }
 
-abbrev pub with_sides : Sides → Node → Node
-with_sides s v = record v { sides = s }
+abbrev pub with_place : Sides → ℕ → Node → Node
+with_place s stamp v = record v { sides = s; stamp = stamp }
 
 module _ {X Y : Type 0} (p : X → Y) (f : X → X) where
   -- what is read of a value that changes, where the change shows in it
@@ -43,14 +43,25 @@ tells m q w e = go (map.get m q) e
 pub there-sides : (m : map.FinMap nat_cmp Node) (q : ℕ) → is_some (watch_at m q) ≡ true → (s : Sides) × (sides_at m q ≡ Some s)
 there-sides m q e = go (map.get m q) e
   where
-    go : (o : Option Node) → is_some (option_map (watching q) o) ≡ true → (s : Sides) × (option_map (λ (v : Node). v.sides) o ≡ Some s)
+    go : (o : Option Node) → is_some (option_map (watching q) o) ≡ true → (s : Sides) × (option_map sides_of o ≡ Some s)
     go None e = cc
     go (Some v) e = (v.sides, refl)
+
+-- and a stamp
+pub there-stamp : (m : map.FinMap nat_cmp Node) (q : ℕ) → is_some (watch_at m q) ≡ true → (s : ℕ) × (stamp_at m q ≡ Some s)
+there-stamp m q e = go (map.get m q) e
+  where
+    go : (o : Option Node) → is_some (option_map (watching q) o) ≡ true → (s : ℕ) × (option_map stamp_of o ≡ Some s)
+    go None e = cc
+    go (Some v) e = (v.stamp, refl)
 
 -- a node that is put under a number, or taken from it
 module _ (m m' : map.FinMap nat_cmp Node) (x : ℕ) (o : Option Node) (changed : (q : ℕ) → map.get m' q ≡ cond (nat_eq x q) o (map.get m q)) where
   pub sides-put : (q : ℕ) → nat_eq x q ≡ false → sides_at m' q ≡ sides_at m q
-  sides-put q n = ap (option_map (λ (v : Node). v.sides)) (rw n at (changed q))
+  sides-put q n = ap (option_map sides_of) (rw n at (changed q))
+
+  pub stamp-put : (q : ℕ) → nat_eq x q ≡ false → stamp_at m' q ≡ stamp_at m q
+  stamp-put q n = ap (option_map stamp_of) (rw n at (changed q))
 
   pub watch-put : (q : ℕ) → watch_at m' q ≡ cond (nat_eq x q) (option_map (watching x) o) (watch_at m q)
   watch-put q = ap (option_map (watching q)) (changed q) ∙ by_test (nat_eq x q)

@@ -14,11 +14,11 @@ both false b e = cc
 next : (w v : Want) (vs : List Want) → rises (w ∷ v ∷ vs) ≡ true → (w.fd < v.fd) × (rises (v ∷ vs) ≡ true)
 next w v vs e = let p = both (nat_lt w.fd v.fd) (rises (v ∷ vs)) e in (ltb-true w.fd v.fd p.0, p.1)
 
-tail : (w : Want) (ws : List Want) → rises (w ∷ ws) ≡ true → rises ws ≡ true
+pub tail : (w : Want) (ws : List Want) → rises (w ∷ ws) ≡ true → rises ws ≡ true
 tail w [] e = refl
 tail w (v ∷ vs) e = (next w v vs e).1
 
-below : (w : Want) (ws : List Want) → rises (w ∷ ws) ≡ true → (j : ℕ) (d : Want) → j < length ws → w.fd < (get_or ws j d).fd
+pub below : (w : Want) (ws : List Want) → rises (w ∷ ws) ≡ true → (j : ℕ) (d : Want) → j < length ws → w.fd < (get_or ws j d).fd
 below w [] e j d l = absurd (omega arith)
 below w (v ∷ vs) e zero d l = (next w v vs e).0
 below w (v ∷ vs) e (suc j) d l = let n = next w v vs e in let ih = below v vs n.1 j d (omega arith) in let f = n.0 in omega (arith, ih, f)

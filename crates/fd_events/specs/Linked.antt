@@ -1,5 +1,5 @@
 -- The rotation, as the nodes and the two ends tell it by the numbers of the events.
-use Rattle.std.specs.Prelude.{◌≡◌, ℕ, Bool, true, List, [], ◌∷◌, ◌++◌, length, Option, Some, None, is_some, if◌then◌else◌}
+use Rattle.std.specs.Prelude.{◌≡◌, ℕ, ◌-◌, ◌^◌, ◌<◌, Bool, true, List, [], ◌∷◌, ◌++◌, length, Option, Some, None, is_some, if◌then◌else◌}
 use Rattle.std.specs.Option.{option_map}
 use Rattle.std.specs.Ordering.{nat_cmp}
 use Rattle.std.specs.FinMap as map
@@ -23,12 +23,18 @@ numbered n = record { 0 = n }
 abbrev pub sides_of : Node → Sides
 sides_of v = v.sides
 
+abbrev pub stamp_of : Node → ℕ
+stamp_of v = v.stamp
+
 -- how the event of this number watches
 abbrev pub watching : ℕ → Node → Watch
 watching x v = record { object = numbered x; fd = v.fd; flags = v.flags; closes = v.closes }
 
 abbrev pub sides_at : map.FinMap nat_cmp Node → ℕ → Option Sides
 sides_at m q = option_map sides_of (map.get m q)
+
+abbrev pub stamp_at : map.FinMap nat_cmp Node → ℕ → Option ℕ
+stamp_at m q = option_map stamp_of (map.get m q)
 
 abbrev pub watch_at : map.FinMap nat_cmp Node → ℕ → Option Watch
 watch_at m q = option_map (watching q) (map.get m q)
@@ -62,13 +68,25 @@ numbers_in l = walk (sides_at l.nodes.pairs) (map.len l.nodes.pairs) l.newest
 abbrev pub watches_in : Lane → List Watch
 watches_in l = listed (watch_at l.nodes.pairs) (numbers_in l)
 
+-- ---- the stamps
+
+-- not all stamps have been given
+abbrev pub HasStampsLeft : Lane → Type 0
+HasStampsLeft l = l.next_stamp < 2 ^ 64 - 1
+
+-- the newest has a stamp below n, and each of the others has one below that of the next newer one
+abbrev pub FallFrom : (ℕ → Option ℕ) → ℕ → List ℕ → Type 0
+FallFrom S n [] = Unit {0}
+FallFrom S n (x ∷ xs) = (s : ℕ) × (S x ≡ Some s) × (s < n) × FallFrom S s xs
+
 -- ---- what holds of the fields
 
--- the neighbours and the two ends keep this lane
+-- the neighbours, the two ends and the stamps keep this lane
 pub record IsLane (l : Lane) (xs : List ℕ) : Type 0 where
   pub distinct : Distinct xs
   pub chain : Chain (sides_at l.nodes.pairs) l.newest xs
   pub at_last : l.oldest ≡ last xs
+  pub stamps : HasStampsLeft l → FallFrom (stamp_at l.nodes.pairs) l.next_stamp xs
 
 abbrev pub number_of : Obj → ℕ
 number_of x = x.0

@@ -1,11 +1,11 @@
 //! The order in which events on descriptors are looked at. One joins it at the end, and leaves it wherever it stands.
-ghost use Rattle.std.specs.Prelude.{◌≡◌, ℕ, ◌∷◌, List, Some, true, false};
+ghost use Rattle.std.specs.Prelude.{◌≡◌, ◌↔◌, ℕ, ◌∷◌, List, Some, IsTrue, true, false};
 ghost use Rattle.std.specs.FinMap as map;
 ghost use Rattle.linked_lanes.specs.Lane.{has, without};
 ghost use Rattle.linked_lanes.specs.Chain.{sides_in};
-ghost use Rattle.fd_events.specs.Linked.{watch_at, IsLane, is_there};
+ghost use Rattle.fd_events.specs.Linked.{watch_at, HasStampsLeft, IsLane, is_there};
 
-use crate::node::{Node, set_link, set_sides};
+use crate::node::{Node, set_link, set_place};
 use linked_lanes::{Link, Sides};
 use pool_arena::Arena;
 
@@ -18,6 +18,9 @@ pub(crate) struct Lane {
     pub newest: Option<u64>,
     /// The one that is looked at first.
     pub oldest: Option<u64>,
+    /// The stamp of the one that joins next. Each has a greater stamp than those before it. Once this is the greatest
+    /// number that there is, no stamps are left to give, and they tell nothing any more.
+    pub next_stamp: u64,
 }
 
 impl Lane {
@@ -52,6 +55,15 @@ impl Lane {
         self.newest = Some(x);
         self.oldest = self.oldest.or(Some(x));
         set_link(&mut self.nodes, older, Link::Newer(Some(x)));
-        set_sides(&mut self.nodes, x, Sides { newer: None, older });
+        let stamp = self.next_stamp;
+        self.next_stamp = stamp.saturating_add(1);
+        set_place(&mut self.nodes, x, Sides { newer: None, older }, stamp);
+    }
+
+    /// Whether there are stamps left to give. As long as there are, the stamps tell the order.
+    pub(crate) fn has_stamps_left(&self) -> bool
+        ensures { IsTrue result ↔ HasStampsLeft self.now }
+    {
+        self.next_stamp != u64::MAX
     }
 }

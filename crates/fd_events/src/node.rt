@@ -1,23 +1,26 @@
-//! What is kept of an event on a descriptor: how it watches, and its neighbours in the order.
+//! What is kept of an event on a descriptor: how it watches, its neighbours in the order, and its stamp.
 ghost use Rattle.std.specs.Prelude.{◌≡◌, ℕ, cond, nat_eq};
 ghost use Rattle.std.specs.Option.{option_map};
 ghost use Rattle.std.specs.FinMap as map;
 ghost use Rattle.linked_lanes.specs.Lane.{is_at};
 ghost use Rattle.linked_lanes.specs.Chain.{noted};
 ghost use Rattle.linked_lanes.specs.declared.Sides.{Sides as SidesData};
-ghost use Rattle.fd_events.specs.Linked.{sides_at, watch_at, watching, with_flags, with_closing};
+ghost use Rattle.fd_events.specs.Linked.{sides_at, stamp_at, watch_at, watching, with_flags, with_closing};
 
 use linked_lanes::{Link, Sides};
 use pool_arena::Arena;
 use tree_specs::{Obj, Watch};
 
-/// How an event watches, and its neighbours in the rotation.
+/// How an event watches, and its place in the rotation.
 #[derive(Clone, Copy)]
 pub(crate) struct Node {
     pub fd: u32,
     pub flags: u32,
     pub closes: bool,
+    /// Its neighbours.
     pub sides: Sides,
+    /// A greater number than that of each event that stands before it.
+    pub stamp: u64,
 }
 
 impl Node {
@@ -37,6 +40,7 @@ impl Node {
 /// Notes another neighbour of an event. Nothing changes where none is given, or where that one doesn't watch.
 pub(crate) fn set_link(nodes: &mut Arena<Node>, at: Option<u64>, link: Link)
     ensures sides { (q : ℕ) → sides_at nodes.new.pairs q ≡ cond (is_at at q) (option_map (noted link) (sides_at nodes.old.pairs q)) (sides_at nodes.old.pairs q) }
+    ensures stamps { (q : ℕ) → stamp_at nodes.new.pairs q ≡ stamp_at nodes.old.pairs q }
     ensures watches { (q : ℕ) → watch_at nodes.new.pairs q ≡ watch_at nodes.old.pairs q }
     ensures len { map.len nodes.new.pairs ≡ map.len nodes.old.pairs }
     ensures spare { nodes.new.spare ≡ nodes.old.spare }
@@ -48,15 +52,17 @@ pub(crate) fn set_link(nodes: &mut Arena<Node>, at: Option<u64>, link: Link)
     }
 }
 
-/// Notes the neighbours of an event. Nothing changes where it doesn't watch.
-pub(crate) fn set_sides(nodes: &mut Arena<Node>, x: u64, sides: Sides)
+/// Notes the neighbours of an event and its stamp. Nothing changes where it doesn't watch.
+pub(crate) fn set_place(nodes: &mut Arena<Node>, x: u64, sides: Sides, stamp: u64)
     ensures sides { (q : ℕ) → sides_at nodes.new.pairs q ≡ cond (nat_eq x q) (option_map (λ (_ : SidesData). sides) (sides_at nodes.old.pairs q)) (sides_at nodes.old.pairs q) }
+    ensures stamps { (q : ℕ) → stamp_at nodes.new.pairs q ≡ cond (nat_eq x q) (option_map (λ (_ : ℕ). stamp) (stamp_at nodes.old.pairs q)) (stamp_at nodes.old.pairs q) }
     ensures watches { (q : ℕ) → watch_at nodes.new.pairs q ≡ watch_at nodes.old.pairs q }
     ensures len { map.len nodes.new.pairs ≡ map.len nodes.old.pairs }
     ensures spare { nodes.new.spare ≡ nodes.old.spare }
 {
     if let Some(node) = nodes.get_mut(x) {
         node.sides = sides;
+        node.stamp = stamp;
     }
 }
 

@@ -1,10 +1,12 @@
 //! `Ring`: the events on descriptors, in the order in which a turn of the event loop looks at them. An event is found
-//! by its number, and by its descriptor, in the same time however many there are.
+//! by its number, and by its descriptor, in the same time however many there are, and the first one that comes in the
+//! time of the descriptors that are ready.
 //!
 //! Contracts see the list of how each event watches, the one that is looked at first in front, and for how many more
 //! there is memory (`spare`).
 //!
-//! Read on in `lane.rt` and `node.rt`, which keep the order, and in `ready.rt`.
+//! Read on in `lane.rt` and `node.rt`, which keep the order, and in `ring/picking.rt`, which finds the first event that
+//! comes.
 ghost use Rattle.std.specs.Prelude.{◌≡◌, ◌++◌, ◌∷◌, [], OnOk};
 ghost use Rattle.std.specs.Option.{option_map};
 ghost use Rattle.tree_specs.specs.Events.Rotation.{wanted_of};
@@ -12,12 +14,13 @@ ghost use Rattle.fd_events.specs.Linked.{numbered};
 
 use crate::lane::Lane;
 use crate::node::{Node, set_closing, set_flags};
-use crate::ready::{ReadyEvent, ready_for};
 use linked_lanes::Sides;
 use pool_arena::Arena;
 use std::alloc::Global;
 use std::marker::Model;
-use tree_specs::{Memory, Obj, Want, Wants, Watch};
+use tree_specs::{Memory, Obj, Want, Watch};
+
+mod picking;
 
 /// The events on descriptors (`tevent_add_fd`), in the order in which a loop looks at them: one that has come goes to
 /// the end. Contracts see the list of how each watches, and spare: so many can be added without taking memory. Each
@@ -74,8 +77,8 @@ fn push_want(out: &mut Vec<Want>, watch: Watch) -> Result<(), Memory>
 
 impl Ring {
     ghost use Rattle.std.specs.Prelude.{◌+◌, ◌<◌, ◌≤◌, ◌↔◌, IsTrue, OnErr, length, slice_get, false};
-    ghost use Rattle.tree_specs.specs.Events.Rotation.{watch_of, is_watching, flags_of, holder_of, is_watched, watched, unwatched, rewatched, flagged, closing, turned_back, first_ready};
-    ghost use Rattle.fd_events.specs.Rotation.{AreEventsOnce, AreDescriptorsOnce, ready_event};
+    ghost use Rattle.tree_specs.specs.Events.Rotation.{watch_of, is_watching, flags_of, holder_of, is_watched, watched, unwatched, rewatched, flagged, closing, turned_back};
+    ghost use Rattle.fd_events.specs.Rotation.{AreEventsOnce, AreDescriptorsOnce};
     ghost use Rattle.fd_events.specs.Linked.{from_on, IsPlace};
 
     /// No events.
@@ -87,6 +90,7 @@ impl Ring {
                 nodes: Arena::new(alloc),
                 newest: None,
                 oldest: None,
+                next_stamp: 0,
             },
             holders: Arena::new(alloc),
         }
@@ -118,6 +122,7 @@ impl Ring {
             older: None,
         };
         let closes = false;
+        let stamp = 0;
         self.holders.add(u64::from(fd), x.0);
         self.lane.nodes.add(
             x.0,
@@ -126,6 +131,7 @@ impl Ring {
                 flags,
                 closes,
                 sides,
+                stamp,
             },
         );
         self.lane.join(x.0);
@@ -220,28 +226,6 @@ impl Ring {
     {
         let oldest = self.oldest()?;
         self.watch(oldest)
-    }
-
-    /// The first event that is watched for something that its descriptor is ready for, and what that is. None exactly
-    /// where there is none. It takes the time of the events that it passes, times the logarithm of how many descriptors
-    /// are ready.
-    pub fn first_ready(&self, ready: &Wants) -> Option<ReadyEvent>
-        ensures { result ≡ option_map ready_event (first_ready self.now.watches ready.now) }
-    {
-        let ready = ready.as_slice();
-        let mut at = self.oldest();
-        while let Some(x) = at {
-            let Place { watch, next } = self.place(x)?;
-            let flags = watch.flags & ready_for(ready, watch.fd);
-            if flags != 0 {
-                return Some(ReadyEvent {
-                    object: watch.object,
-                    flags,
-                });
-            }
-            at = next;
-        }
-        None
     }
 
     /// Adds the descriptors that are watched for something, and what for, in the order of the rotation.

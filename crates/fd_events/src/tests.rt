@@ -206,6 +206,42 @@ fn add_all(ring: &mut Ring, count: u32) -> bool
     free
 }
 
+// Who comes first where the descriptors of the 16th and the 19th of twenty events are ready.
+fn first_of_far(alloc: Global, ring: &Ring) -> Result<u64, Fail> {
+    first_of_two(alloc, ring, want(15, 1), want(18, 1))
+}
+
+#[test]
+fn the_first_that_is_ready_comes_from_behind_many_that_are_not(
+    rt: HostRuntime,
+) -> Result<(), Fail> {
+    let mut ring = with_room(rt.alloc(), 20)?;
+    assert!(rt; add_all(&mut ring, 20));
+    let near = first_of_two(rt.alloc(), &ring, want(2, 1), want(18, 1))?;
+    let far = first_of_far(rt.alloc(), &ring)?;
+    let written = first_of_two(rt.alloc(), &ring, want(15, 2), want(18, 1))?;
+    let others = first_of_two(rt.alloc(), &ring, want(18, 2), want(20, 1))?;
+    ring.turn_back(Obj(16));
+    let turned = first_of_far(rt.alloc(), &ring)?;
+    assert!(rt; (near == 31) & (far == 161) & (written == 191) & (others == 0) & (turned == 191));
+    Ok(())
+}
+
+#[test]
+fn one_that_joins_again_stands_behind_all_others(rt: HostRuntime) -> Result<(), Fail> {
+    let mut ring = with_room(rt.alloc(), 20)?;
+    add_all(&mut ring, 20);
+    let _watch = ring.remove(Obj(16));
+    let without = first_of_far(rt.alloc(), &ring)?;
+    ring.reserve(1)?;
+    let added = add(&mut ring, 16, 15, 1);
+    let again = first_of_far(rt.alloc(), &ring)?;
+    ring.turn_back(Obj(19));
+    let turned = first_of_far(rt.alloc(), &ring)?;
+    assert!(rt; (without == 191) & added & (again == 191) & (turned == 161));
+    Ok(())
+}
+
 // The event x leaves, which watches the descriptor below it. Answers whether that is told.
 fn remove(ring: &mut Ring, x: u32) -> bool
     requires { 0 < x }

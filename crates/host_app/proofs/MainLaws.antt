@@ -1,7 +1,11 @@
 -- What the top call writes, by what its parts wrote.
-use Rattle.std.proofs.Common.{◌≡◌, ℕ, List, length, Option, Some, None, Result, Ok, Err, IfErr, OnOk, refl, sym, ◌∙◌, ap, subst, ◌⊎◌, inl, inr}
+use Rattle.std.proofs.Common.{◌≡◌, ℕ, List, [], length, Option, Some, None, Result, Ok, Err, IfErr, OnOk, refl, sym, ◌∙◌, ap, subst, ◌⊎◌, inl, inr}
 use Rattle.std.specs.Prelude.{IfSome}
+use Rattle.std.proofs.KnownBytes.{Appends-nil}
 use Rattle.service_rules.specs.Schedules.{judge}
+use Rattle.schedule_versions.specs.Conversions.{converted, shape}
+use Rattle.schedule_versions.specs.Judging.{IsJudgedAlike}
+use Rattle.schedule_versions.proofs.Converting.{judged-as-before}
 use Rattle.outside.specs.Causes.{Counts, Rose}
 use Rattle.outside.specs.Outputs.{LeavesRoom, PutsAll}
 use Rattle.outside.specs.declared.output.PutError.{PutError}
@@ -9,6 +13,7 @@ use Rattle.outside.specs.declared.output.PutError.TheVariants as put_errors
 use Rattle.schedule_replay.specs.declared.ran.Ran.{Ran}
 use Rattle.schedule_replay.specs.declared.ran.Ran.TheVariants as rans
 use Rattle.schedule_replay.specs.Runs.{Replays, IsFrontOf}
+use Rattle.schedule_replay.specs.Converts.{Converts, IsConverted}
 use Rattle.schedule_replay.proofs.WholeLaws.{not-begun}
 use Rattle.load_schedule.specs.Loads.{PutsFiveLines}
 use Rattle.load_schedule.proofs.LoadLaws.{load-front}
@@ -23,7 +28,7 @@ use Rattle.serving.proofs.LinesLaws.{no_service}
 use Rattle.host_app.specs.Serves.{Serves}
 use Rattle.host_app.specs.Statuses.{status_of, status_of_put, status_of_service}
 use Rattle.host_app.specs.Audits.{WritesOrderlyFront}
-use Rattle.host_app.specs.Mains.{Loads, Says}
+use Rattle.host_app.specs.Mains.{ConvertsTo, Loads, Says}
 
 -- without memory a replay has written a prefix
 pub replay-front : (left read held now : Option (List ℕ)) (ran : Ran) (status : Status) → status ≡ status_of ran → IfSome left (λ bytes. Replays bytes read held now ran) → status ≡ statuses.NoMemory → IfSome left (λ bytes. IsFrontOf bytes held now)
@@ -45,10 +50,10 @@ Completes fit left reads reads_now writes writes_now ended = IfSome left (λ byt
 abbrev pub Accepted : List ℕ → Type 0
 Accepted bytes = judge bytes ≡ None
 
-pub replay-complete : (left : Option (List ℕ)) (reads reads_now writes writes_now : ℕ) (ran : Ran) (status : Status) → status ≡ status_of ran
-    → Completes Accepted left reads reads_now writes writes_now ((ran ≡ rans.Done) ⊎ (ran ≡ rans.Memory)) → Completes Accepted left reads reads_now writes writes_now ((status ≡ statuses.Done) ⊎ (status ≡ statuses.NoMemory))
-replay-complete None reads reads_now writes writes_now ran status e h = tt
-replay-complete (Some bytes) reads reads_now writes writes_now ran status e h = λ judged read wrote. elim (h judged read wrote) [
+pub run-complete : (fit : List ℕ → Type 0) (left : Option (List ℕ)) (reads reads_now writes writes_now : ℕ) (ran : Ran) (status : Status) → status ≡ status_of ran
+    → Completes fit left reads reads_now writes writes_now ((ran ≡ rans.Done) ⊎ (ran ≡ rans.Memory)) → Completes fit left reads reads_now writes writes_now ((status ≡ statuses.Done) ⊎ (status ≡ statuses.NoMemory))
+run-complete fit None reads reads_now writes writes_now ran status e h = tt
+run-complete fit (Some bytes) reads reads_now writes writes_now ran status e h = λ judged read wrote. elim (h judged read wrote) [
   | inl d ↦ inl (e ∙ ap status_of d)
   | inr m ↦ inr (e ∙ ap status_of m)
 ]
@@ -57,6 +62,30 @@ pub memory-complete : (fit : List ℕ → Type 0) (left : Option (List ℕ)) (re
     → Completes fit left reads reads_now writes writes_now ((status ≡ statuses.Done) ⊎ (status ≡ statuses.NoMemory))
 memory-complete fit None reads reads_now writes writes_now status e = tt
 memory-complete fit (Some bytes) reads reads_now writes writes_now status e = λ judged read wrote. inr e
+
+-- a conversion is done or without memory, where no line is over a limit and each is in the grammar
+abbrev pub Shaped : List ℕ → Type 0
+Shaped bytes = shape bytes ≡ None
+
+pub converts-by : (left read held now : Option (List ℕ)) (ran : Ran) (status : Status) → status ≡ status_of ran → IfSome left (λ bytes. Converts bytes read held now ran) → IfSome left (λ bytes. ConvertsTo bytes read held now status)
+converts-by None read held now ran status e c = tt
+converts-by (Some bytes) read held now rans.Done status e c = rw e c
+converts-by (Some bytes) read held now rans.ReadFault status e c = rw e c
+converts-by (Some bytes) read held now (rans.BadSchedule line reason) status e c = rw e c
+converts-by (Some bytes) read held now rans.WriteFault status e c = rw e c
+converts-by (Some bytes) read held now rans.Memory status e c = rw e c
+
+-- what was converted whole is judged as before
+pub converts-same : (left read held now : Option (List ℕ)) (status : Status) → IfSome left (λ bytes. ConvertsTo bytes read held now status) → status ≡ statuses.Done → IfSome left (λ bytes. IsJudgedAlike bytes (converted bytes))
+converts-same None read held now status c done = tt
+converts-same (Some bytes) read held now status c done =
+    let all : IsConverted bytes read held now = subst (λ (s : Status). ConvertsTo bytes read held now s) done c in
+    judged-as-before bytes all.accepted
+
+-- there was no memory to read the words
+pub converts-none : (left read held now : Option (List ℕ)) (status : Status) → now ≡ held → status ≡ statuses.NoMemory → IfSome left (λ bytes. ConvertsTo bytes read held now status)
+converts-none None read held now status kept e = tt
+converts-none (Some bytes) read held now status kept e = rw (e, kept) (record { front = []; rest = converted bytes; text = refl; put = Appends-nil held })
 
 -- a text that was put was said, in whole or in part
 pub says-by : (held now : Option (List ℕ)) (room room_now : Option ℕ) (faults faults_now : ℕ) (r : Result (Unit {0}) PutError) (text : List ℕ) → PutsAll held now r text → Counts faults faults_now (r ≡ Err put_errors.Write)

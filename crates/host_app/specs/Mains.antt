@@ -5,6 +5,8 @@ use Rattle.std.specs.Io.KnownBytes.{Appends}
 use Rattle.outside.specs.Causes.{Rose}
 use Rattle.outside.specs.Puts.{IsBeyond}
 use Rattle.outside.specs.declared.output.PutError.TheVariants as put_errors
+use Rattle.schedule_replay.specs.declared.ran.Ran.TheVariants as rans
+use Rattle.schedule_replay.specs.Converts.{Converts}
 use Rattle.load_schedule.specs.Loads.{PutsFiveLines}
 use Rattle.command_words.specs.CommandLine.{Asked, command_of}
 use Rattle.host_app.specs.declared.status.Status.{Status}
@@ -13,6 +15,15 @@ use Rattle.host_app.specs.declared.status.Status.TheVariants as statuses
 -- what the words ask for; none where they aren't taken
 abbrev pub names : {Z : Type 0} → List (String Z) → Option Asked
 names words = command_of (map (λ w. string_bytes w) words)
+
+-- How a conversion ends: with the whole schedule, at a rejected line, or earlier after a fault or without memory, and in no other way.
+abbrev pub ConvertsTo : List ℕ → Option (List ℕ) → Option (List ℕ) → Option (List ℕ) → Status → Type 0
+ConvertsTo bytes left held now statuses.Done = Converts bytes left held now rans.Done
+ConvertsTo bytes left held now statuses.ReadFault = Converts bytes left held now rans.ReadFault
+ConvertsTo bytes left held now (statuses.BadSchedule line reason) = Converts bytes left held now (rans.BadSchedule line reason)
+ConvertsTo bytes left held now statuses.WriteFault = Converts bytes left held now rans.WriteFault
+ConvertsTo bytes left held now statuses.NoMemory = Converts bytes left held now rans.Memory
+ConvertsTo bytes left held now _ = ⊥
 
 -- How a load ends: with the five lines, or with a prefix of them after a fault or without memory, and in no other way.
 abbrev pub Loads : ℕ → ℕ → Option (List ℕ) → Option (List ℕ) → Status → Type 0

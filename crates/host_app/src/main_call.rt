@@ -8,10 +8,12 @@ ghost use Rattle.schedule_replay.specs.Runs.{IsDone, IsBad, IsCutShort, IsFrontO
 ghost use Rattle.schedule_replay.specs.Stories.{WritesStory};
 ghost use Rattle.host_app.specs.Statuses.{status_text};
 ghost use Rattle.serving.specs.Stations.{ends};
-ghost use Rattle.command_words.specs.CommandLine.Asked.{Replay, Audit, Serve, Load};
+ghost use Rattle.command_words.specs.CommandLine.Asked.{Replay, Convert, Audit, Serve, Load};
 ghost use Rattle.transcript_audit.specs.Outcomes.{HasFlaw};
 ghost use Rattle.host_app.specs.Audits.{WritesOrderly, WritesOrderlyFront};
-ghost use Rattle.host_app.specs.Mains.{names, Loads, Says};
+ghost use Rattle.schedule_versions.specs.Conversions.{converted, shape};
+ghost use Rattle.schedule_versions.specs.Judging.{IsJudgedAlike};
+ghost use Rattle.host_app.specs.Mains.{ConvertsTo, names, Loads, Says};
 ghost use Rattle.host_app.specs.Serves.{Serves};
 
 use crate::auditing::audit_transcript;
@@ -20,18 +22,19 @@ use crate::status::Status;
 use command_words::{Command, WordsError, read_words};
 use load_schedule::load;
 use outside::{Clock, Link, Routines, Sink, Source, put_all};
-use schedule_replay::replay;
+use schedule_replay::{convert, replay};
 use serving::serve_lines;
 use std::alloc::Global;
 
 /// Does what the words say, and says on `err` what the status means.
 ///
-/// The word `replay` replays the schedule that `input` gives into its transcript, which goes to `out`. The word `audit`
-/// says of the transcript that `input` gives whether its story is orderly: on `out`, with the number of its lines, or on
-/// `err`, with the first line that has a flaw. The words `serve PATH ANSWERS` serve lines at a Unix socket until ANSWERS answers of the link, the clock and the routines were
-/// given, and put the schedule of these answers to `out`. The words `load NUMBER COUNT` make a schedule of COUNT calls
-/// from a number and put five lines on its transcript to `out`. Where words aren't taken the status is 2, and a person
-/// is told what to type. A fault of `err`, or running out of memory there, changes no status.
+/// The word `replay` replays the schedule that `input` gives into its transcript, which goes to `out`. The word `convert`
+/// puts that schedule to `out` in version 2. The word `audit` says of the transcript that `input` gives whether its story
+/// is orderly: on `out`, with the number of its lines, or on `err`, with the first line that has a flaw. The words `serve
+/// PATH ANSWERS` serve lines at a Unix socket until ANSWERS answers of the link, the clock and the routines were given,
+/// and put the schedule of these answers to `out`. The words `load NUMBER COUNT` make a schedule of COUNT calls from a
+/// number and put five lines on its transcript to `out`. Where words aren't taken the status is 2, and a person is told
+/// what to type. A fault of `err`, or running out of memory there, changes no status.
 pub fn host_main<S: Source, K: Sink, E: Sink, L: Link, C: Clock, R: Routines>(
     alloc: Global,
     words: &[String],
@@ -52,15 +55,16 @@ pub fn host_main<S: Source, K: Sink, E: Sink, L: Link, C: Clock, R: Routines>(
     // inputs has been written.
     ensures done { names words.now ≡ Some Replay → result ≡ Status.Done → IfSome (S.left input.old) (λ bytes. IsDone bytes (S.left input.new) (K.held out.old) (K.held out.new)) }
 
-    // The first rejected line, after the transcript of the lines before it. It comes of no other words.
-    ensures bad { (line : ℕ) (reason : Reason) → result ≡ Status.BadSchedule line reason → IfSome (S.left input.old) (λ bytes. IsBad bytes line reason (K.held out.old) (K.held out.new)) }
-    ensures bad_words { (line : ℕ) (reason : Reason) → result ≡ Status.BadSchedule line reason → names words.now ≡ Some Replay }
+    // The first rejected line, after the transcript of the lines before it. Of the words `replay` and `convert` alone a
+    // line is rejected.
+    ensures bad { names words.now ≡ Some Replay → (line : ℕ) (reason : Reason) → result ≡ Status.BadSchedule line reason → IfSome (S.left input.old) (λ bytes. IsBad bytes line reason (K.held out.old) (K.held out.new)) }
+    ensures bad_words { (line : ℕ) (reason : Reason) → result ≡ Status.BadSchedule line reason → (names words.now ≡ Some Replay) ⊎ (names words.now ≡ Some Convert) }
 
     // The story whose transcript that is, of a host or of a line service, as the first line says: a destructor accepts at
     // most once in it, every freed object with a destructor had it accept, nothing starts for a freed object, and to free
     // a live object is refused only while it is held, running or refused.
     ensures story { names words.now ≡ Some Replay → result ≡ Status.Done → IfSome (S.left input.old) (λ bytes. WritesStory bytes (K.held out.old) (K.held out.new)) }
-    ensures story_before { (line : ℕ) (reason : Reason) → result ≡ Status.BadSchedule line reason → line ≢ 1 → IfSome (S.left input.old) (λ bytes. WritesStory bytes (K.held out.old) (K.held out.new)) }
+    ensures story_before { names words.now ≡ Some Replay → (line : ℕ) (reason : Reason) → result ≡ Status.BadSchedule line reason → line ≢ 1 → IfSome (S.left input.old) (λ bytes. WritesStory bytes (K.held out.old) (K.held out.new)) }
 
     // After a fault, and when memory runs out, a prefix of the transcript has been written. A service that would give
     // more answers than it may is without memory, and its schedule has no transcript.
@@ -72,6 +76,17 @@ pub fn host_main<S: Source, K: Sink, E: Sink, L: Link, C: Clock, R: Routines>(
 
     // Where no line is to be rejected and no fault was counted, all is done, or memory ran out.
     ensures complete { names words.now ≡ Some Replay → IfSome (S.left input.old) (λ bytes. judge bytes ≡ None →
+        (Rose (S.faults input.old) (S.faults input.new) → ⊥) → (Rose (K.faults out.old) (K.faults out.new) → ⊥) → (result ≡ Status.Done) ⊎ (result ≡ Status.NoMemory)) }
+
+    // Of the word `convert`: the schedule in version 2 has been written, up to the first line that is over a limit or isn't
+    // in the grammar. Where a read failed, the whole lines that were taken have been; at another fault, and when memory
+    // runs out, a prefix.
+    ensures converts { names words.now ≡ Some Convert → IfSome (S.left input.old) (λ bytes. ConvertsTo bytes (S.left input.new) (K.held out.old) (K.held out.new) result) }
+
+    // Where all is converted, what was written is judged as the schedule that was read, has its inputs and gives its
+    // transcript.
+    ensures converts_same { names words.now ≡ Some Convert → result ≡ Status.Done → IfSome (S.left input.old) (λ bytes. IsJudgedAlike bytes (converted bytes)) }
+    ensures converts_complete { names words.now ≡ Some Convert → IfSome (S.left input.old) (λ bytes. shape bytes ≡ None →
         (Rose (S.faults input.old) (S.faults input.new) → ⊥) → (Rose (K.faults out.old) (K.faults out.new) → ⊥) → (result ≡ Status.Done) ⊎ (result ≡ Status.NoMemory)) }
 
     // Of the word `audit`: the bytes are the transcript of an orderly story, and the line with the number of their lines
@@ -125,6 +140,7 @@ pub fn host_main<S: Source, K: Sink, E: Sink, L: Link, C: Clock, R: Routines>(
 {
     let status = match read_words(alloc, words) {
         Ok(Command::Replay) => Status::from(replay(alloc, input, out)),
+        Ok(Command::Convert) => Status::from(convert(alloc, input, out)),
         Ok(Command::Audit) => audit_transcript(alloc, input, out),
         Ok(Command::Serve { path, answers }) => Status::from(serve_lines(
             alloc,

@@ -89,7 +89,7 @@ fn answers_are_put_on_record(rt: HostRuntime) -> Result<(), Fail> {
         serves(&rt, "3", &mut link, &mut out, &mut err)?,
         Status::Done
     );
-    let record = b"tv schedule 1 service\nready 0:1\ntook 1\nready\n";
+    let record = b"tv schedule 2 service\nready 0:1\ntook 1\nready\n";
     ends(&rt, &out, record, &err, b"");
     Ok(())
 }
@@ -130,8 +130,8 @@ fn fails_at(rt: &HostRuntime, call: u64) -> Result<Failed, Fail> {
 
 #[test]
 fn a_link_that_fails_ends_it(rt: HostRuntime) -> Result<(), Fail> {
-    let header = b"tv schedule 1 service\n".as_slice();
-    let one = b"tv schedule 1 service\nready 0:1\ntook 1\n".as_slice();
+    let header = b"tv schedule 2 service\n".as_slice();
+    let one = b"tv schedule 2 service\nready 0:1\ntook 1\n".as_slice();
     for (call, record) in [(1, b"".as_slice()), (2, header), (3, one)] {
         let failed = fails_at(&rt, call)?;
         assert_eq!(rt; failed.status, Status::LinkFault);
@@ -154,7 +154,7 @@ fn a_sink_that_fails_ends_it(rt: HostRuntime) -> Result<(), Fail> {
     ends(
         &rt,
         &out,
-        b"tv schedule 1 service\n",
+        b"tv schedule 2 service\n",
         &err,
         b"write fault\n",
     );

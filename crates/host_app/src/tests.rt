@@ -24,7 +24,7 @@ const REPORTED: &[u8] =
 
 // Two clients connect to the line service, and the first one sends a line, and a part of another.
 pub(crate) const CLIENTS: &[u8] =
-    b"tv schedule 1 service\nready 0:1\ntook 1\nready 0:1\ntook 2\nready 1:1\ngot 31206e65772030203520610a3220736c65\nwrote 4\n";
+    b"tv schedule 2 service\nready 0:1\ntook 1\nready 0:1\ntook 2\nready 1:1\ngot 31206e65772030203520610a3220736c65\nwrote 4\n";
 
 const CLIENTS_SERVED: &[u8] =
     b"tv transcript 1\nask wait 30000000\nfired fd 2 1\nask accept 0\nask wait 30000000\nfired fd 2 1\nask accept 0\nask wait 30000000\nfired fd 4 2\nask read 1 4096\nask write 1 3120390a\nend wait 30000000\n";
@@ -155,6 +155,56 @@ fn each_schedule_has_its_transcript_or_its_first_refused_line(rt: HostRuntime) -
     ];
     for (bytes, status, out, err) in cases {
         let told = run_with(&rt, "replay", bytes, 4096, &[], &[])?;
+        ends(&rt, &told, status, out, err);
+    }
+    Ok(())
+}
+
+// A timer is armed, and a turn fires it.
+const TIMED: &[u8] = b"tv schedule 1 pool\ncall timer 0 0 16 1\ncall turn\nret 0\nclock 5\n";
+
+const TIMED_IN_CONTEXT: &[u8] =
+    b"tv schedule 2 pool\ncall timer 0 0 16 1 0\ncall turn 0\nret 0\nclock 5\n";
+
+const TIMED_FIRED: &[u8] =
+    b"tv transcript 1\nreply 1\nfired timer 1 16\nask timer 1 16 1 0 0 0\nfreed 1 0\nreply 1\nend quiet\n";
+
+#[test]
+fn a_schedule_is_converted_and_replays_as_before(rt: HostRuntime) -> Result<(), Fail> {
+    for bytes in [TIMED, TIMED_IN_CONTEXT] {
+        let converted = run_with(&rt, "convert", bytes, 7, &[], &[])?;
+        ends(&rt, &converted, Status::Done, TIMED_IN_CONTEXT, b"");
+        let replayed = run_with(&rt, "replay", bytes, 7, &[], &[])?;
+        let late = refused(5, Reason::NotAsked);
+        ends(&rt, &replayed, late, TIMED_FIRED, b"line 5: not asked\n");
+    }
+    Ok(())
+}
+
+#[test]
+fn a_conversion_ends_at_a_line_of_the_other_version(rt: HostRuntime) -> Result<(), Fail> {
+    let cases = [
+        (
+            b"tv schedule 1 pool\ncall turn\ncall turn 0\ncall turn\n".as_slice(),
+            refused(3, Reason::Form),
+            b"tv schedule 2 pool\ncall turn 0\n".as_slice(),
+            b"line 3: form\n".as_slice(),
+        ),
+        (
+            b"tv schedule 2 pool\ncall turn\n",
+            refused(2, Reason::Form),
+            b"tv schedule 2 pool\n",
+            b"line 2: form\n",
+        ),
+        (
+            b"tv schedule 3 pool\n",
+            refused(1, Reason::Form),
+            b"",
+            b"line 1: form\n",
+        ),
+    ];
+    for (bytes, status, out, err) in cases {
+        let told = run_with(&rt, "convert", bytes, 4096, &[], &[])?;
         ends(&rt, &told, status, out, err);
     }
     Ok(())

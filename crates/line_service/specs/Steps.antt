@@ -17,7 +17,6 @@ use Rattle.service_rules.specs.declared.order.Order.TheVariants as order
 use Rattle.service_rules.specs.declared.task.Task.{Task}
 use Rattle.service_rules.specs.Knowledge.{resting_call}
 use Rattle.service_rules.specs.Knowledge.Setup.{Nothing, Unwatched}
-use Rattle.service_rules.specs.Lines.{is_served}
 use Rattle.service_rules.specs.Naming.{stranger_in}
 use Rattle.service_rules.specs.Service.{first_of_outside}
 use Rattle.service_rules.specs.Stations.{StationView, Shows, IsAsked, outside_question}
@@ -85,11 +84,6 @@ abbrev pub IsShownBy : Step → List Event → Type 0
 IsShownBy (step.Shown e) events = events ≡ e ∷ []
 IsShownBy step.Asked events = ⊥
 IsShownBy step.Silent events = events ≡ []
-
--- a call that lines do
-abbrev pub IsServed : Order → Type 0
-IsServed (order.Call c) = is_served c ≡ true
-IsServed o = Unit {0}
 
 -- the first object that a line names and may not name
 abbrev pub strange_in : Pool → Obj → Order → Option Obj

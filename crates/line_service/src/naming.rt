@@ -1,8 +1,8 @@
 //! What the numbers of a line may name: plain objects inside the session of its connection.
 ghost use Rattle.std.specs.Prelude.{◌≡◌, Some, None, true};
-ghost use Rattle.service_rules.specs.Lines.{is_served};
+ghost use Rattle.service_rules.specs.Lines.{is_served, IsServed};
 ghost use Rattle.service_rules.specs.Naming as rules;
-ghost use Rattle.line_service.specs.Steps.{IsServed, strange_in};
+ghost use Rattle.line_service.specs.Steps.{strange_in};
 
 use host_core::Host;
 use service_rules::Order;

@@ -3,6 +3,7 @@ use Rattle.std.proofs.Common.{◌≡◌, ◌≤◌, ◌<◌, ℕ, zero, suc, ◌
 use Rattle.std.specs.Fmt.{digits}
 use Rattle.std.proofs.Math.Seq.{take-append-add}
 use Rattle.std.proofs.lemmas.List.{take-append-le, length-take-le}
+use Rattle.tree_specs.specs.declared.schedule.Version.TheVariants.{One}
 use Rattle.tree_specs.specs.declared.call.Call.{Call}
 use Rattle.tree_specs.specs.declared.question.Input.TheVariants as inputs
 use Rattle.tree_specs.specs.Texts.Text.{call_text, input_text}
@@ -13,11 +14,11 @@ pub last-text : (b : Bool) (left : ℕ) (p : Place) (bytes : List ℕ) → b ≡
 unfolding input_text call_text digits
 last-text b left p bytes over none e = rw (over, none, e) refl
 
-pub next-text : (b : Bool) (left : ℕ) (p q : Place) (bytes : List ℕ) → b ≡ false → 0 < left → bytes ≡ input_text (inputs.Call (call_drawn p)) → q ≡ after_call p → text_to_come b left p ≡ bytes ++ text_to_come b (left - 1) q
+pub next-text : (b : Bool) (left : ℕ) (p q : Place) (bytes : List ℕ) → b ≡ false → 0 < left → bytes ≡ input_text One (inputs.Call (call_drawn p)) → q ≡ after_call p → text_to_come b left p ≡ bytes ++ text_to_come b (left - 1) q
 next-text b zero p q bytes over some e same = absurd (omega arith)
 next-text b (suc k) p q bytes over some e same = let less : suc k - 1 ≡ k = omega arith in rw (over, less, e, same) refl
 
-pub line-some : (c : Call) → 0 < length (input_text (inputs.Call c))
+pub line-some : (c : Call) → 0 < length (input_text One (inputs.Call c))
 unfolding input_text
 line-some c = omega arith
 

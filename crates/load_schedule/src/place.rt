@@ -1,5 +1,6 @@
 //! The draws of a schedule, and the calls that they make.
 ghost use Rattle.std.specs.Prelude.{◌≡◌, ◌<◌, ◌≤◌, ◌+◌, ◌%◌};
+ghost use Rattle.tree_specs.specs.declared.schedule.Version.TheVariants.{One};
 ghost use Rattle.tree_specs.specs.declared.question.Input.TheVariants as inputs;
 ghost use Rattle.tree_specs.specs.Texts.Text.{input_text};
 ghost use Rattle.tree_specs.specs.Texts.Load.{next_state, drawn, kind, second_draw, third_draw, first_place, call_drawn, after_call};
@@ -90,7 +91,7 @@ impl Place {
     /// Writes the line of the next call.
     pub(crate) fn next_line(&mut self, line: &mut Line)
         requires { self.old.made < u32.MAX }
-        ensures line { line.new ≡ input_text (inputs.Call (call_drawn self.old)) }
+        ensures line { line.new ≡ input_text One (inputs.Call (call_drawn self.old)) }
         ensures place { self.new ≡ after_call self.old }
         ensures made { self.new.made ≤ self.old.made + 1 }
     {

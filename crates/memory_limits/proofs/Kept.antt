@@ -15,12 +15,12 @@ use Rattle.tree_specs.specs.Calls.Refusals.{is_plain, is_plain_row, checked, ref
 use Rattle.tree_specs.specs.declared.reply.Refusal.TheVariants.{OverLimit}
 use Rattle.std.specs.List.{AllByRecursion}
 use Rattle.tree_specs.proofs.Tree.Numbered.{by_test, same-true, same-false, same-equal}
-use Rattle.tree_specs.proofs.Tree.SumLaws.{sum-below, sum-lone, sum-before, sum-sized}
+use Rattle.tree_specs.proofs.Tree.SumLaws.{sum-anywhere, sum-below, sum-lone, sum-before, sum-sized}
 use Rattle.tree_links.specs.Links.{IsTree}
 use Rattle.tree_links.proofs.Weighing.{sum-small}
 use Rattle.memory_limits.specs.declared.change.Change.{Change}
 use Rattle.memory_limits.specs.declared.limited.Limited.{Limited}
-use Rattle.memory_limits.specs.Limits.{limit_of, unlimited, bound_of, SameBounds, AllBound, AllSums, AreLimitsOf, counts, found}
+use Rattle.memory_limits.specs.Limits.{limit_of, unlimited, bound_of, SameBounds, AllBound, AllSums, IsKeptSum, AreLimitsOf, counts, found}
 
 -- so many bytes come, or go
 abbrev pub come : ℕ → Change
@@ -93,6 +93,23 @@ sum-found [] rs x l s e = cc
 sum-found (k ∷ ls) rs x l s e = by_test (same k.object x)
     (λ t. let e' : Some k ≡ Some l = rw t at e in let e'' : k ≡ l = cc in let o : k.object ≡ x = same-true k.object x t in sym (ap (λ (z : Limited). z.sum) e'') ∙ s.0 ∙ ap (λ (z : Obj). sum_inside rs (Of z)) o)
     (λ t. let e' : found ls x ≡ Some l = rw t at e in sum-found ls rs x l s.1 e')
+
+pub all-kept : (ls : List Limited) (rs : List Row) (x : Obj) → AllSums ls rs → IsKeptSum ls rs x
+all-kept ls rs x s = λ l e. sum-found ls rs x l s e
+
+-- an object's own sum is right where it has left, and where it is yet to leave an owner that isn't inside it
+pub kept-left : (ls : List Limited) (rs : List Row) (next : ℕ) (x : Obj) → IsTree rs next → AllSums ls (changed left_row rs x) → IsKeptSum ls rs x
+kept-left ls rs next x t s = λ l e. sum-found ls (changed left_row rs x) x l s e ∙ sym (sum-anywhere rs x t.forest.rooted)
+
+pub kept-before : (ls : List Limited) (rs : List Row) (next : ℕ) (x : Obj) (from : Owner) → IsTree rs next → is_row rs x ≡ true → is_inside rs from (Of x) ≡ false → AllSums ls (changed (owned_row from) rs x) → IsKeptSum ls rs x
+kept-before ls rs next x from t is out s = each (row_of rs x) refl
+  where
+    each : (q : Option Row) → row_of rs x ≡ q → IsKeptSum ls rs x
+    each None e = let bad : false ≡ true = rw e at is in cc
+    each (Some r) there = λ l e.
+        let b = rw out at (sum-before rs x r from t.forest.rooted there out (Of x)) in
+        let own = sum-anywhere rs x t.forest.rooted in
+        omega (arith, sum-found ls (changed (owned_row from) rs x) x l s e, b, own)
 
 -- ---- an object without a limit
 

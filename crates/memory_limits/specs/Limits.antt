@@ -81,6 +81,10 @@ listed m = each (λ e. limited_at e.0 e.1) (map.entries m)
 abbrev pub found : List Limited → Obj → Option Limited
 found ls x = find (λ l. same l.object x) ls
 
+-- the sum that is kept of this object, if one is, is that of what is inside
+abbrev pub IsKeptSum : List Limited → List Row → Obj → Type 0
+IsKeptSum ls rs x = (l : Limited) → found ls x ≡ Some l → l.sum ≡ sum_inside rs (Of x)
+
 -- the nearest with a limit of an owner and those above it, in at most n steps
 abbrev pub nearest_in : ℕ → List Limited → List Row → Option Owner → Option Obj
 nearest_in n ls rs None = None

@@ -40,7 +40,7 @@ impl Sums {
     ghost use Rattle.tree_specs.specs.declared.row.Row.{Row as RowData};
     ghost use Rattle.tree_specs.specs.declared.object.Owner.TheVariants.{Of as At};
     ghost use Rattle.tree_specs.specs.Tree.Pool.{row_of, is_row, is_inside, without, changed, left_row, owned_row, sized_row};
-    ghost use Rattle.memory_limits.specs.Limits.{AllSums, AllBound, SameBounds, HasLeft, AreLimitsOf, limit_of, limited_at, found, nearest_limited, unlimited};
+    ghost use Rattle.memory_limits.specs.Limits.{AllSums, AllBound, IsKeptSum, SameBounds, HasLeft, AreLimitsOf, limit_of, limited_at, found, nearest_limited, unlimited};
 
     /// No limits.
     pub fn new(alloc: Global) -> Sums
@@ -110,7 +110,7 @@ impl Sums {
         let Some(nearest) = self.nearest(tree, owner) else {
             return;
         };
-        let more = sum(tree, Owner::Of(x));
+        let more = self.sum_of(tree, x);
         Change { less: 0, more }.count_above(tree, nearest, &mut self.limited);
     }
 
@@ -130,7 +130,7 @@ impl Sums {
         let Some(nearest) = self.nearest(tree, from) else {
             return;
         };
-        let less = sum(tree, Owner::Of(x));
+        let less = self.sum_of(tree, x);
         Change { less, more: 0 }.count_above(tree, nearest, &mut self.limited);
     }
 
@@ -175,7 +175,7 @@ impl Sums {
             self.gone(x);
             return;
         }
-        let sum = self.sum(tree, Owner::Of(x));
+        let sum = self.sum_of(tree, x);
         self.gone(x);
         self.limited.add(x.0, Allowance { limit: max, sum });
     }
@@ -186,12 +186,21 @@ impl Sums {
         requires { AllSums self.now.limited tree.now.rows }
         ensures { result ≡ sum_inside tree.now.rows owner }
     {
-        let Owner::Of(x) = owner else {
-            return sum(tree, owner);
-        };
+        match owner {
+            Owner::Root => sum(tree, owner),
+            Owner::Of(x) => self.sum_of(tree, x),
+        }
+    }
+
+    /// What the objects inside an object count, in bytes. Where it has a limit, this is kept, and only its own sum need be
+    /// that of the tree: it is while the object comes or goes.
+    fn sum_of(&self, tree: &Tree, x: Obj) -> u64
+        requires { IsKeptSum self.now.limited tree.now.rows x }
+        ensures { result ≡ sum_inside tree.now.rows (At x) }
+    {
         match self.find(x) {
             Some(allowance) => allowance.sum,
-            None => sum(tree, owner),
+            None => sum(tree, Owner::Of(x)),
         }
     }
 

@@ -39,6 +39,3 @@ pub use source::{Got, Source};
 pub use std_sink::StdSink;
 pub use std_source::StdSource;
 pub use wall_clock::WallClock;
-
-#[cfg(test)]
-mod tests;

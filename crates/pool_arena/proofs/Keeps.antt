@@ -1,23 +1,22 @@
 -- What each change of the places and the slots leaves of the map.
-use Rattle.std.proofs.Common.{◌≡◌, ◌≢◌, ℕ, ◌+◌, ◌-◌, Bool, true, false, cond, nat_eq, List, [], ◌∷◌, length, get_or, Option, Some, None, IsSome, is_some, refl, sym, ap, ◌∙◌, arith, suc, add-one}
+use Rattle.std.proofs.Common.{◌≡◌, ◌≢◌, ℕ, ◌+◌, ◌-◌, Bool, true, false, cond, nat_eq, List, [], ◌∷◌, get_or, Option, Some, None, IsSome, is_some, count_by, refl, sym, ap, ◌∙◌, arith}
 use Rattle.std.proofs.lemmas.Bool.{eqb-true, eq-eqb}
 use Rattle.std.specs.Prelude.{min}
-use Rattle.std.specs.Option.{option_and_then}
+use Rattle.std.specs.Option.{option_and_then, OnSome}
 use Rattle.std.specs.Ordering.{nat_cmp, eq_by_cmp, is_eq}
 use Rattle.std.specs.declared.cmp.Ordering.{Ordering}
 use Rattle.std.specs.declared.cmp.Ordering.TheVariants.{Less, Equal, Greater}
 use Rattle.std.proofs.lemmas.Cmp.{eq_by_cmp_equiv}
 use Rattle.std.proofs.lemmas.List.Sums.{sum_by-set}
-use Rattle.std.specs.List.{IsDistinct, AllByRecursion}
-use Rattle.std.specs.Map.{keys_of}
 use Rattle.std.specs.Cmp.{nat_cmp_total}
 use Rattle.std.specs.FinMap as map
-use Rattle.std.specs.FinMap.{same_map, nat_cmp-IsAntisymmetric, get-insert, get-remove, get-empty, len-insert, len-empty}
-use Rattle.std.specs.Map.{lookup}
+use Rattle.std.specs.FinMap.{same_map, nat_cmp-IsAntisymmetric, get-insert, get-remove, get-empty, get-entries, len-insert, len-remove, len-empty}
+use Rattle.std.specs.FinMap.Entries.{find}
 use Rattle.slab.specs.Slab.{Slab, get as slot_get, slab_len, Updates as SlotUpdates, with_value as slot_with}
 use Rattle.slab.proofs.SlabLemmas.{Updates-with_value, ContainsKey-within}
-use Rattle.indexmap.specs.IndexMap.{IndexMap, get as place_get, spare as room, Updates as PlaceUpdates}
-use Rattle.pool_arena.specs.Arena.{held, pairs_of, with_entry, with_value, IsSound, get}
+use Rattle.pool_arena.specs.declared.places.Places.{Places}
+use Rattle.pool_arena.specs.Places.{slots_of, spare as room}
+use Rattle.pool_arena.specs.Arena.{held, pairs_of, with_entry, with_value, AreTied}
 
 pub by_test : {P : Type 0} (b : Bool) → (b ≡ true → P) → (b ≡ false → P) → P
 by_test true h k = h refl
@@ -45,13 +44,13 @@ module _ {X : Type 0} where
   get-with_entry m k None q = get-remove nat_cmp_total m k q ∙ ap (λ b. cond b None (map.get m q)) (ties q k)
   get-with_entry m k (Some v) q = get-insert nat_cmp_total m k v q ∙ ap (λ b. cond b (Some v) (map.get m q)) (ties q k)
 
-  pub get-pairs_of : (es : List (ℕ × ℕ)) (s : Slab X) (q : ℕ) → map.get (pairs_of es s) q ≡ option_and_then (slot_get s) (lookup (nat_eq q) es)
+  pub get-pairs_of : (es : List (ℕ × ℕ)) (s : Slab X) (q : ℕ) → map.get (pairs_of es s) q ≡ option_and_then (slot_get s) (find nat_cmp q es)
   get-pairs_of [] s q = get-empty nat_cmp q
   get-pairs_of (e ∷ es) s q =
       let ih = get-pairs_of es s q in
       get-with_entry (pairs_of es s) e.0 (slot_get s e.1) q ∙ by_test (nat_eq e.0 q)
-      (λ t. let u : nat_eq q e.0 ≡ true = eq-eqb _ _ (sym (eqb-true _ _ t)) in rw (t, u) refl)
-      (λ t. let u : nat_eq q e.0 ≡ false = eqb-false _ _ (λ h. absurd (let w : nat_eq e.0 q ≡ true = eq-eqb _ _ (sym h) in let bad : true ≡ false = sym w ∙ t in cc)) in rw (t, u) ih)
+      (λ t. let u : eq_by_cmp nat_cmp q e.0 ≡ true = ties q e.0 ∙ t in rw (t, u) refl)
+      (λ t. let u : eq_by_cmp nat_cmp q e.0 ≡ false = ties q e.0 ∙ t in rw (t, u) ih)
 
   pub same_pairs : (m n : map.FinMap nat_cmp X) → ((q : ℕ) → map.get m q ≡ map.get n q) → m ≡ n
   same_pairs m n h = same_map nat_cmp_total nat_cmp-IsAntisymmetric m n h
@@ -136,94 +135,132 @@ module _ {X : Type 0} where
             go t None e = refl
             go t (Some j) e = others j (away q j t e)
 
-module _ {X S : Type 0} where
-  pub fits2 : (m : IndexMap ℕ ℕ S) (s : Slab X) → IsSound m s → Fits2 (place_get nat_eq m) (slot_get s)
+module _ {X : Type 0} where
+  -- the slots of keys, with a value
+  abbrev pub pairs : map.FinMap nat_cmp ℕ → Slab X → map.FinMap nat_cmp X
+  pairs m s = pairs_of (map.entries m) s
+
+  pub fits2 : (m : map.FinMap nat_cmp ℕ) (s : Slab X) → AreTied m s → Fits2 (map.get m) (slot_get s)
   fits2 m s h = record { filled = h.filled; apart = h.apart }
 
-  pub reads : (m : IndexMap ℕ ℕ S) (s : Slab X) (q : ℕ) → get (held m s) q ≡ option_and_then (slot_get s) (place_get nat_eq m q)
-  reads m s q = get-pairs_of m.entries s q
+  pub reads : (m : map.FinMap nat_cmp ℕ) (s : Slab X) (q : ℕ) → map.get (pairs m s) q ≡ option_and_then (slot_get s) (map.get m q)
+  reads m s q = get-pairs_of (map.entries m) s q ∙ ap (option_and_then (slot_get s)) (sym (get-entries m q))
 
-  -- the same entries
-  pub same-sound : (m m' : IndexMap ℕ ℕ S) (s : Slab X) → m'.entries ≡ m.entries → IsSound m s → IsSound m' s
-  same-sound m m' s q sound = record {
-    filled = λ k i e. sound.filled k i (sym (ap (lookup (nat_eq k)) q) ∙ e);
-    apart = λ k l i e d. sound.apart k l i (sym (ap (lookup (nat_eq k)) q) ∙ e) (sym (ap (lookup (nat_eq l)) q) ∙ d);
-  }
+  -- a key with no value has no slot
+  pub no_place : (m : map.FinMap nat_cmp ℕ) (s : Slab X) (k : ℕ) → AreTied m s → map.get (pairs m s) k ≡ None → map.get m k ≡ None
+  no_place m s k tied none = go (map.get m k) refl
+    where
+      go : (o : Option ℕ) → map.get m k ≡ o → map.get m k ≡ None
+      go None e = e
+      go (Some i) e = none_is_none (slot_get s i) (tied.filled k i e) (ap (option_and_then (slot_get s)) (sym e) ∙ sym (reads m s k) ∙ none)
 
-  -- no entries
-  pub empty-sound : (m : IndexMap ℕ ℕ S) (s : Slab X) → m.entries ≡ [] → IsSound m s
-  empty-sound m s q = record {
-    filled = λ k i e. none_is_none (Some i) refl (sym e ∙ ap (lookup (nat_eq k)) q);
-    apart = λ k l i e d. none_is_none (Some i) refl (sym e ∙ ap (lookup (nat_eq k)) q);
-  }
+  pub on_some : {P : Type 0} (o : Option X) → IsSome o → OnSome o P → P
+  on_some None h p = absurd (cc)
+  on_some (Some v) h p = p
+
+  -- no keys
+  pub empty-pairs : (m : map.FinMap nat_cmp ℕ) (s : Slab X) → m ≡ map.empty → pairs m s ≡ map.empty
+  empty-pairs m s e = same_pairs (pairs m s) map.empty (λ q.
+      reads m s q ∙ ap (option_and_then (slot_get s)) (ap (λ x. map.get x q) e ∙ get-empty {X = ℕ} nat_cmp q) ∙ sym (get-empty nat_cmp q))
+
+  pub empty_tied : (m : map.FinMap nat_cmp ℕ) (s : Slab X) → m ≡ map.empty → slab_len s ≡ 0 → AreTied m s
+  empty_tied m s e n =
+      let none = λ (k : ℕ). ap (λ x. map.get x k) e ∙ get-empty {X = ℕ} nat_cmp k in record {
+        filled = λ k i f. none_is_none (Some i) refl (sym f ∙ none k);
+        apart = λ k l i f g. none_is_none (Some i) refl (sym f ∙ none k);
+        counted = ap map.len (empty-pairs m s e) ∙ len-empty nat_cmp X ∙ sym n;
+      }
 
   -- a new pair
-  module _ (m m' : IndexMap ℕ ℕ S) (s s' : Slab X) (sound : IsSound m s) (k i : ℕ) (v : X)
-      (places : PlaceUpdates nat_eq m m' k (Some i)) (slots : SlotUpdates s s' i (Some v)) (empty : slot_get s i ≡ None) where
-    pub add-sound : IsSound m' s'
-    add-sound = let f = added-fits _ _ _ _ (fits2 m s sound) k i v places.0 slots.changed slots.others empty in record { filled = f.filled; apart = f.apart }
+  module _ (m : map.FinMap nat_cmp ℕ) (s s' : Slab X) (tied : AreTied m s) (k i : ℕ) (v : X)
+      (slots : SlotUpdates s s' i (Some v)) (empty : slot_get s i ≡ None) where
+    abbrev placed : map.FinMap nat_cmp ℕ
+    placed = map.insert m k i
 
-    pub add-pairs : pairs_of m'.entries s' ≡ map.insert (pairs_of m.entries s) k v
-    add-pairs = same_pairs _ _ (λ q. reads m' s' q ∙ added-reads _ _ _ _ (fits2 m s sound) k i v places.0 slots.changed slots.others empty q
-        ∙ sym (get-with_entry (pairs_of m.entries s) k (Some v) q ∙ ap (cond (nat_eq k q) (Some v)) (reads m s q)))
+    pub add-pairs : pairs placed s' ≡ map.insert (pairs m s) k v
+    add-pairs = same_pairs _ _ (λ q. reads placed s' q ∙ added-reads (map.get m) (map.get placed) _ _ (fits2 m s tied) k i v (get-with_entry m k (Some i)) slots.changed slots.others empty q
+        ∙ sym (get-with_entry (pairs m s) k (Some v) q ∙ ap (cond (nat_eq k q) (Some v)) (reads m s q)))
+
+    pub add-tied : map.get (pairs m s) k ≡ None → slab_len s' ≡ slab_len s + 1 → AreTied placed s'
+    add-tied new more =
+        let f = added-fits (map.get m) (map.get placed) _ _ (fits2 m s tied) k i v (get-with_entry m k (Some i)) slots.changed slots.others empty in
+        let one : map.len (map.insert (pairs m s) k v) ≡ map.len (pairs m s) + 1 =
+        len-insert nat_cmp_total (pairs m s) k v ∙ ap (λ o. cond (is_some o) (map.len (pairs m s)) (map.len (pairs m s) + 1)) new in
+        record { filled = f.filled; apart = f.apart; counted = ap map.len add-pairs ∙ one ∙ ap (λ n. n + 1) tied.counted ∙ sym more }
 
   -- a pair goes
-  module _ (m m' : IndexMap ℕ ℕ S) (s s' : Slab X) (sound : IsSound m s) (k i : ℕ) (at : place_get nat_eq m k ≡ Some i)
-      (places : PlaceUpdates nat_eq m m' k None) (slots : SlotUpdates s s' i None) where
-    pub take-sound : IsSound m' s'
-    take-sound = let f = taken-fits _ _ _ _ (fits2 m s sound) k i at places.0 slots.others in record { filled = f.filled; apart = f.apart }
+  module _ (m : map.FinMap nat_cmp ℕ) (s s' : Slab X) (tied : AreTied m s) (k i : ℕ) (at : map.get m k ≡ Some i) (slots : SlotUpdates s s' i None) where
+    abbrev left : map.FinMap nat_cmp ℕ
+    left = map.remove m k
 
-    pub take-pairs : pairs_of m'.entries s' ≡ map.remove (pairs_of m.entries s) k
-    take-pairs = same_pairs _ _ (λ q. reads m' s' q ∙ taken-reads _ _ _ _ (fits2 m s sound) k i at places.0 slots.others q
-        ∙ sym (get-with_entry (pairs_of m.entries s) k None q ∙ ap (cond (nat_eq k q) None) (reads m s q)))
+    pub take-pairs : pairs left s' ≡ map.remove (pairs m s) k
+    take-pairs = same_pairs _ _ (λ q. reads left s' q ∙ taken-reads (map.get m) (map.get left) _ _ (fits2 m s tied) k i at (get-with_entry m k None) slots.others q
+        ∙ sym (get-with_entry (pairs m s) k None q ∙ ap (cond (nat_eq k q) None) (reads m s q)))
 
-  pub removed_nothing : (m : IndexMap ℕ ℕ S) (s : Slab X) (k : ℕ) → place_get nat_eq m k ≡ None → map.remove (pairs_of m.entries s) k ≡ pairs_of m.entries s
-  removed_nothing m s k none = same_pairs _ _ (λ q. get-with_entry (pairs_of m.entries s) k None q ∙ by_test (nat_eq k q)
-      (λ t. let e : k ≡ q = eqb-true k q t in rw t (sym (reads m s q ∙ ap (option_and_then (slot_get s)) (ap (place_get nat_eq m) (sym e) ∙ none))))
+    was_there : IsSome (map.get (pairs m s) k)
+    was_there = rw (reads m s k, at) (tied.filled k i at)
+
+    pub take-tied : slab_len s' + 1 ≡ slab_len s → AreTied left s'
+    take-tied fewer =
+        let f = taken-fits (map.get m) (map.get left) _ _ (fits2 m s tied) k i at (get-with_entry m k None) slots.others in
+        let one : map.len (map.remove (pairs m s) k) ≡ map.len (pairs m s) - 1 =
+        len-remove nat_cmp_total (pairs m s) k ∙ ap (λ b. cond b (map.len (pairs m s) - 1) (map.len (pairs m s))) was_there in
+        let count = tied.counted in
+        record { filled = f.filled; apart = f.apart; counted = ap map.len take-pairs ∙ one ∙ omega (arith, count, fewer) }
+
+  pub removed_nothing : (m : map.FinMap nat_cmp ℕ) (s : Slab X) (k : ℕ) → map.get m k ≡ None → map.remove (pairs m s) k ≡ pairs m s
+  removed_nothing m s k none = same_pairs _ _ (λ q. get-with_entry (pairs m s) k None q ∙ by_test (nat_eq k q)
+      (λ t. let e : k ≡ q = eqb-true k q t in rw t (sym (reads m s q ∙ ap (option_and_then (slot_get s)) (ap (map.get m) (sym e) ∙ none))))
       (λ t. rw t refl))
 
   -- a write through `get_mut`
-  module _ (m : IndexMap ℕ ℕ S) (s : Slab X) (sound : IsSound m s) (k i : ℕ) (at : place_get nat_eq m k ≡ Some i) where
-    pub write-pairs : (w : X) → pairs_of m.entries (slot_with s i w) ≡ map.insert (pairs_of m.entries s) k w
-    write-pairs w =
-        let u = Updates-with_value s i w (sound.filled k i at) in
-        same_pairs _ _ (λ q. reads m (slot_with s i w) q ∙ written-reads (place_get nat_eq m) (place_get nat_eq m) _ _ (fits2 m s sound) k i at w u.changed u.others q
-        ∙ sym (get-with_entry (pairs_of m.entries s) k (Some w) q ∙ ap (cond (nat_eq k q) (Some w)) (reads m s q)))
+  module _ (m : map.FinMap nat_cmp ℕ) (s : Slab X) (tied : AreTied m s) (k i : ℕ) (at : map.get m k ≡ Some i) (w : X) where
+    pub write-pairs : pairs m (slot_with s i w) ≡ map.insert (pairs m s) k w
+    write-pairs =
+        let u = Updates-with_value s i w (tied.filled k i at) in
+        same_pairs _ _ (λ q. reads m (slot_with s i w) q ∙ written-reads (map.get m) (map.get m) _ _ (fits2 m s tied) k i at w u.changed u.others q
+        ∙ sym (get-with_entry (pairs m s) k (Some w) q ∙ ap (cond (nat_eq k q) (Some w)) (reads m s q)))
 
-    pub write-held : (w : X) → held m (slot_with s i w) ≡ with_value (held m s) k w
-    write-held w =
-        let full = sound.filled k i at in
+    pub write-count : slab_len (slot_with s i w) ≡ slab_len s
+    write-count =
+        let full = tied.filled k i at in
         let within = ContainsKey-within s i full in
         let sums = sum_by-set (λ o. cond (is_some o) 1 0) s.slots i (Some w) None within in
         let one : ◌≡◌ {A = ℕ} (cond (is_some (slot_get s i)) 1 0) 1 = ap (λ (b : Bool). cond {A = ℕ} b 1 0) full in
-        let count : slab_len (slot_with s i w) ≡ slab_len s = omega (arith, sums, one) in
-        λ j. record { pairs = write-pairs w j; spare = min (s.capacity - count j) (room m) }
+        omega (arith, sums, one)
 
-distinct-none : (k : ℕ) (es : List (ℕ × ℕ)) → AllByRecursion (λ y. nat_eq k y ≡ false) (keys_of es) → lookup (nat_eq k) es ≡ None
-distinct-none k [] h = refl
-distinct-none k (e ∷ es) h = let a = h.0 in rw a (distinct-none k es h.1)
+    pub write-tied : AreTied m (slot_with s i w)
+    write-tied =
+        let u = Updates-with_value s i w (tied.filled k i at) in
+        let there : IsSome (map.get (pairs m s) k) = rw (reads m s k, at) (tied.filled k i at) in
+        let same : map.len (map.insert (pairs m s) k w) ≡ map.len (pairs m s) =
+        len-insert nat_cmp_total (pairs m s) k w ∙ ap (λ b. cond b (map.len (pairs m s)) (map.len (pairs m s) + 1)) there in
+        record {
+          filled = λ l j e. by_test (nat_eq i j)
+              (λ t. let d : i ≡ j = eqb-true i j t in rw (ap (slot_get (slot_with s i w)) (sym d), u.changed) refl)
+              (λ t. let d : j ≢ i = λ x. (let bad : true ≡ false = sym (eq-eqb i j (sym x)) ∙ t in absurd (cc)) in rw (u.others j d) (tied.filled l j e));
+          apart = tied.apart;
+          counted = ap map.len write-pairs ∙ same ∙ tied.counted ∙ sym write-count;
+        }
+
+  pub write-held : (p : Places) (s : Slab X) → AreTied (slots_of p) s → (k i : ℕ) → map.get (slots_of p) k ≡ Some i → (w : X) → held p (slot_with s i w) ≡ with_value (held p s) k w
+  write-held p s tied k i at w =
+      let those = write-pairs (slots_of p) s tied k i at w in
+      let count = write-count (slots_of p) s tied k i at w in
+      λ j. record { pairs = those j; spare = min (s.capacity - count j) (room p) }
 
 module _ {X : Type 0} where
   pub pairs_of-slots : (es : List (ℕ × ℕ)) (s s' : Slab X) → s'.slots ≡ s.slots → pairs_of es s' ≡ pairs_of es s
   pairs_of-slots [] s s' e = refl
   pairs_of-slots (x ∷ es) s s' e = λ j. with_entry (pairs_of-slots es s s' e j) x.0 (get_or (e j) x.1 None)
 
-  pub len-pairs_of : (es : List (ℕ × ℕ)) (s : Slab X) → IsDistinct nat_eq (keys_of es) → ((k i : ℕ) → lookup (nat_eq k) es ≡ Some i → IsSome (slot_get s i)) → map.len (pairs_of es s) ≡ length es
-  unfolding IsDistinct
-  len-pairs_of [] s d f = len-empty nat_cmp X
-  len-pairs_of (e ∷ es) s d f =
-      let none : lookup (nat_eq e.0) es ≡ None = distinct-none e.0 es d.0 in
-      let here : IsSome (slot_get s e.1) = f e.0 e.1 (rw (eq-eqb e.0 e.0 refl) refl) in
-      let ih = len-pairs_of es s d.1 (λ k i h. f k i (by_test (nat_eq k e.0)
-      (λ t. let q : lookup (nat_eq k) es ≡ None = ap (λ x. lookup (nat_eq x) es) (eqb-true k e.0 t) ∙ none in let bad : Some i ≡ None = sym h ∙ q in absurd (cc))
-      (λ t. rw t h))) in
-      go (slot_get s e.1) refl here none ih
-    where
-      go : (o : Option X) → slot_get s e.1 ≡ o → IsSome (slot_get s e.1) → lookup (nat_eq e.0) es ≡ None → map.len (pairs_of es s) ≡ length es → map.len (with_entry (pairs_of es s) e.0 (slot_get s e.1)) ≡ suc (length es)
-      go None q here none ih = let bad : false ≡ true = sym (ap is_some q) ∙ here in absurd (cc)
-      go (Some v) q here none ih =
-          let new : map.contains_key (pairs_of es s) e.0 ≡ false = ap is_some (get-pairs_of es s e.0 ∙ ap (option_and_then (slot_get s)) none) in
-          rw q (len-insert nat_cmp_total (pairs_of es s) e.0 v ∙ ap (λ b. cond b (map.len (pairs_of es s)) (map.len (pairs_of es s) + 1)) new ∙ ap (λ n. n + 1) ih ∙ add-one (length es))
+  -- the same values in the same slots
+  pub same-tied : (m : map.FinMap nat_cmp ℕ) (s s' : Slab X) → s'.slots ≡ s.slots → AreTied m s → AreTied m s'
+  same-tied m s s' e tied = record {
+    filled = λ k i f. rw e (tied.filled k i f);
+    apart = tied.apart;
+    counted = ap map.len (pairs_of-slots (map.entries m) s s' e) ∙ tied.counted ∙ ap (count_by is_some) (sym e);
+  }
 
 pub removed_none : {X : Type 0} (m : map.FinMap nat_cmp X) (k : ℕ) → map.get m k ≡ None → map.remove m k ≡ m
 removed_none m k none = same_pairs _ _ (λ q. get-with_entry m k None q ∙ by_test (nat_eq k q)

@@ -1,5 +1,7 @@
 //! Values under serial numbers, each found at once however many there are. A value stays in its slot until it is taken
-//! out, and the slot then serves the next one.
+//! out, and the slot then serves the next one. No hash is used: a number is found by its last bits, and where others
+//! that are held share these by the bits before them. So numbers in a row are found in one step, and whoever chooses
+//! numbers to be a burden can make it 64 steps at most.
 #![tactic(auto)]
 
 ghost use Rattle.std.specs.Prelude.{◌≡◌, ◌≤◌, ◌+◌, IsOk, IsTrue, OnOk, OnErr, Some, None, option_copied, IsSome};
@@ -8,17 +10,17 @@ ghost use Rattle.std.specs.Ordering.{nat_cmp};
 ghost use Rattle.std.specs.FinMap as map;
 ghost use Rattle.std.specs.Borrow.{sem};
 
-use indexmap::IndexMap;
 use slab::Slab;
 use std::alloc::{AllocError, Global};
 use std::fmt;
 use std::marker::Model;
 
-mod guesses;
+mod node;
+mod places;
 #[cfg(test)]
 mod tests;
 
-use guesses::{Guess, is_vacant, join, keep_up, leave, look_at, short, slot_of};
+use places::Places;
 
 /// Values, each under a key of its own. Contracts see a finite map from keys to values, and spare: so many more values
 /// can be added without taking memory. Only `reserve` takes memory.
@@ -26,9 +28,7 @@ use guesses::{Guess, is_vacant, join, keep_up, leave, look_at, short, slot_of};
 pub struct Arena<T> {
     slots: Slab<T>,
     /// The slot of each key.
-    places: IndexMap<u64, usize>,
-    /// What is known of the keys without a look at the places.
-    guesses: Vec<Guess>,
+    places: Places,
 }
 
 impl<T> Model for Arena<T> {
@@ -40,7 +40,7 @@ impl<T> Model for Arena<T> {
 
     ghost view = { λ a. held a.places a.slots };
 
-    ghost invariant = { λ a. IsKept a.places a.slots a.guesses.items };
+    ghost invariant = { λ a. IsKept a.places a.slots };
 }
 
 impl<T> Arena<T> {
@@ -54,8 +54,7 @@ impl<T> Arena<T> {
     {
         Arena {
             slots: Slab::new(alloc),
-            places: IndexMap::new(alloc),
-            guesses: Vec::new(alloc),
+            places: Places::new(alloc),
         }
     }
 
@@ -65,9 +64,8 @@ impl<T> Arena<T> {
         ensures spare { self.old.spare ≤ self.new.spare }
         ensures room { OnOk result (n ≤ self.new.spare) }
     {
-        keep_up(&mut self.guesses, &self.places)?;
         self.slots.reserve(n)?;
-        self.places.reserve(n)
+        self.places.reserve(n, self.slots.len())
     }
 
     /// Adds a value under a key that isn't held.
@@ -78,18 +76,14 @@ impl<T> Arena<T> {
         ensures spare { self.old.spare ≤ self.new.spare + 1 }
     {
         let slot = self.slots.insert_reserved(value);
-        join(&mut self.guesses, key, short(self.places.len()));
-        match self.places.insert(key, slot) {
-            Ok(_) => (),
-            Err(_) => unreachable!(),
-        }
+        self.places.insert(key, slot);
     }
 
     /// The value of a key. None exactly where it isn't held.
     pub fn get(&self, key: u64) -> Option<&T>
         ensures { option_copied result ≡ get self.now key }
     {
-        match slot_of(&self.places, &self.guesses, key) {
+        match self.places.get(key) {
             Some(slot) => self.slots.get(slot),
             None => None,
         }
@@ -100,7 +94,7 @@ impl<T> Arena<T> {
         ensures* writes_back { sem 𝓛 (lends_get T.row self.entry key result) }
         ensures value { option_copied_mut result ≡ get self.old key }
     {
-        match slot_of(&self.places, &self.guesses, key) {
+        match self.places.get(key) {
             Some(slot) => self.slots.get_mut(slot),
             None => None,
         }
@@ -112,15 +106,8 @@ impl<T> Arena<T> {
         ensures pairs { self.new.pairs ≡ map.remove self.old.pairs key }
         ensures spare { self.old.spare ≤ self.new.spare }
     {
-        if is_vacant(&self.guesses, &self.places, key) {
-            return None;
-        }
-        match self.places.swap_remove_full(&key) {
-            Some((index, _, slot)) => {
-                leave(&mut self.guesses, key);
-                look_at(&mut self.guesses, &self.places, index);
-                self.slots.try_remove(slot)
-            }
+        match self.places.remove(key) {
+            Some(slot) => self.slots.try_remove(slot),
             None => None,
         }
     }
@@ -129,7 +116,7 @@ impl<T> Arena<T> {
     pub fn len(&self) -> usize
         ensures { result ≡ map.len self.now.pairs }
     {
-        self.places.len()
+        self.slots.len()
     }
 }
 

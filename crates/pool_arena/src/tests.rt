@@ -39,3 +39,22 @@ fn running_out_of_memory_leaves_it_as_it_was(rt: HostRuntime) -> Result<(), Fail
     assert_eq!(rt; arena.len(), 1);
     Ok(())
 }
+
+// Keys with the same last 20 bits, so that they stand in one tree.
+#[test]
+fn keys_with_the_same_last_bits_are_kept_apart(rt: HostRuntime) -> Result<(), Fail> {
+    let mut arena = Arena::new(rt.alloc());
+    let keys = [1, 0x10_0001, 0x20_0001, 0x30_0001, 0x50_0001];
+    arena.reserve(keys.len())?;
+    for (value, key) in (0u32..).zip(keys) {
+        arena.reserve(1)?;
+        put(&mut arena, key, value);
+    }
+    assert_eq!(rt; arena.take(0x10_0001), Some(1));
+    assert_eq!(rt; arena.get(0x10_0001).copied(), None);
+    assert_eq!(rt; arena.get(0x30_0001).copied(), Some(3));
+    assert_eq!(rt; arena.get(0x50_0001).copied(), Some(4));
+    assert_eq!(rt; arena.get(0x40_0001).copied(), None);
+    assert_eq!(rt; arena.len(), 4);
+    Ok(())
+}

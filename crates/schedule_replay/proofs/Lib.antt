@@ -4,7 +4,10 @@ pub mod PlayLaws
 pub mod ItemLaws
 pub mod HostLaws
 pub mod StationLaws
+pub mod HeaderLaws
 pub mod WholeLaws
 pub mod StageLaws
 pub mod SessionLaws
 pub mod StoryLaws
+pub mod ReplayLaws
+pub mod ConvertLaws

@@ -152,18 +152,26 @@ module _ {J : Type 0} where
     unfolding judged_from
     judged-err s n line rest why e = rw e refl
 
+    -- where this is told when no input comes
+    pub refuses-so : (s : Standing J) (end : List ℕ) → s.tells [] ≡ Some end → (n : ℕ) (line : Line) (rest : List Line) (why : Reason) → line_input (runner_of reads misfit s) n s.course line ≡ Err why
+        → replayed_lines (runner_of reads misfit s) n (line ∷ rest) ≡ record { text = Some end; refused = Some (n, why) }
+    unfolding replayed_lines
+    refuses-so s end told n line rest why e =
+        let one = judged-err s n line rest why e in
+        rw (one, told) refl
+
     pub refuses : (s : Standing J) (w : Waits s) (n : ℕ) (line : Line) (rest : List Line) (why : Reason) → line_input (runner_of reads misfit s) n s.course line ≡ Err why
         → replayed_lines (runner_of reads misfit s) n (line ∷ rest) ≡ record { text = Some (end_text w.question); refused = Some (n, why) }
-    unfolding replayed_lines
-    refuses s w n line rest why e =
-        let one = judged-err s n line rest why e in
-        rw (one, w.last) refl
+    refuses s w n line rest why e = refuses-so s (end_text w.question) w.last n line rest why e
 
     pub misfits : (s : Standing J) (w : Waits s) (n : ℕ) (text : List ℕ) (j : J) (rest : List Line) (why : Reason) → length text ≤ line_limit → n ≤ lines_limit → reads text ≡ Some j → unfit misfit s j ≡ Some why
         → replayed_lines (runner_of reads misfit s) n (ended_line text ∷ rest) ≡ record { text = Some (end_text w.question); refused = Some (n, why) }
     misfits s w n text j rest why short low e f = refuses s w n (ended_line text) rest why (input-by (runner_of reads misfit s) s.course n text j (Some why) short low e f)
 
     -- no line is left
-    pub no-more : (s : Standing J) (w : Waits s) (n : ℕ) → replayed_lines (runner_of reads misfit s) n [] ≡ record { text = Some (end_text w.question); refused = None }
+    pub no-more-so : (s : Standing J) (end : List ℕ) → s.tells [] ≡ Some end → (n : ℕ) → replayed_lines (runner_of reads misfit s) n [] ≡ record { text = Some end; refused = None }
     unfolding replayed_lines judged_from
-    no-more s w n = rw w.last refl
+    no-more-so s end told n = rw told refl
+
+    pub no-more : (s : Standing J) (w : Waits s) (n : ℕ) → replayed_lines (runner_of reads misfit s) n [] ≡ record { text = Some (end_text w.question); refused = None }
+    no-more s w n = no-more-so s (end_text w.question) w.last n

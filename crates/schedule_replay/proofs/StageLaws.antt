@@ -12,43 +12,44 @@ use Rattle.schedule_replay.specs.declared.stop.Stop.{Stop}
 use Rattle.schedule_replay.specs.declared.stop.Stop.TheVariants as errors
 use Rattle.schedule_replay.specs.Hosts.{host_standing}
 use Rattle.schedule_replay.specs.Stations.{station_standing}
-use Rattle.schedule_replay.specs.Replays.{replayed_lines, BeginsText}
-use Rattle.schedule_replay.specs.Stages.{IsAtHeader, replayed_all, comes, text_in, ready, stops, TakesHeader}
+use Rattle.schedule_replay.specs.Replays.{replayed_lines}
+use Rattle.schedule_replay.specs.Stages.{IsAtHeader, replayed_all, plays, text_in, ready, TakesHeader}
+use Rattle.schedule_replay.specs.Players.{IsInFront, stops}
 use Rattle.schedule_replay.specs.Standings.{runner_of}
 use Rattle.schedule_replay.proofs.TextLaws.{begins_nil, begins_it}
 use Rattle.schedule_replay.proofs.WholeLaws.{nothing-runs, pool-taken, service-taken, header-form, header-over, header-ends}
 
 -- ---- the first line
 
-pub header_line : (s t : Stage) (n : ℕ) (text : List ℕ) (r : Result (Unit {0}) Stop) → IsAtHeader s → ready s n → length text ≤ line_limit → TakesHeader text s t r → TakesLine comes stops s n text t r
+pub header_line : (s t : Stage) (n : ℕ) (text : List ℕ) (r : Result (Unit {0}) Stop) → IsAtHeader s → ready s n → length text ≤ line_limit → TakesHeader text s t r → TakesLine plays (stops text_in) s n text t r
 header_line (Pool play) t n text r h one short e = absurd h
 header_line (Service play) t n text r h one short e = absurd h
 header_line (Header alloc) (Header other) n text (Ok done) h one short e = absurd e
 header_line (Header alloc) (Pool play) n text (Ok done) h one short e = λ rest.
-    pool-taken text rest e.0 ∙ e.1.goes_on 2 rest ∙ ap (λ (m : ℕ). comes (Pool play) (m + 1) rest) (sym one)
+    pool-taken play.version text rest e.0 ∙ e.1.goes_on 2 rest ∙ ap (λ (m : ℕ). plays (Pool play) (m + 1) rest) (sym one)
 header_line (Header alloc) (Service play) n text (Ok done) h one short e = λ rest.
-    service-taken text rest e.1.0 e.0 e.1.1 ∙ e.1.2.goes_on 2 rest ∙ ap (λ (m : ℕ). comes (Service play) (m + 1) rest) (sym one)
+    service-taken play.version text rest e.1.0 e.0 e.1.1 ∙ e.1.2.goes_on 2 rest ∙ ap (λ (m : ℕ). plays (Service play) (m + 1) rest) (sym one)
 header_line (Header alloc) t n text (Err (errors.Refused line reason)) h one short e = λ rest.
     rw (e.0, e.1.0, e.1.1) (header-form (ended_line text) rest short (nothing-runs text e.1.2))
 header_line (Header alloc) t n text (Err errors.Memory) h one short e = λ rest. rw e.0 (begins_nil (replayed_all (ended_line text ∷ rest)).text)
 header_line (Header alloc) t n text (Err _) h one short e = absurd e.1
 
 -- it is over a limit
-pub header_limit : (s : Stage) (n : ℕ) → IsAtHeader s → ready s n → (line : Line) (rest : List Line) → is_over_limit n line ≡ true → comes s n (line ∷ rest) ≡ record { text = Some []; refused = Some (n, Limit) }
+pub header_limit : (s : Stage) (n : ℕ) → IsAtHeader s → ready s n → (line : Line) (rest : List Line) → is_over_limit n line ≡ true → plays s n (line ∷ rest) ≡ record { text = Some []; refused = Some (n, Limit) }
 header_limit (Pool play) n h one = absurd h
 header_limit (Service play) n h one = absurd h
 header_limit (Header alloc) n h one = λ line rest over.
     header-over line rest (subst (λ (m : ℕ). is_over_limit m line ≡ true) one over) ∙ rw one refl
 
 -- the schedule ends before the second line
-pub header_end : (s : Stage) (n : ℕ) (cut : Bool) → IsAtHeader s → ready s n → (text : List ℕ) → length text ≤ line_limit → comes s n (last_lines cut text) ≡ record { text = Some []; refused = Some (n, Form) }
+pub header_end : (s : Stage) (n : ℕ) (cut : Bool) → IsAtHeader s → ready s n → (text : List ℕ) → length text ≤ line_limit → plays s n (last_lines cut text) ≡ record { text = Some []; refused = Some (n, Form) }
 header_end (Pool play) n cut h one = absurd h
 header_end (Service play) n cut h one = absurd h
 header_end (Header alloc) n cut h one = λ text short. header-ends cut text short ∙ rw one refl
 
 -- ---- at every stage
 
-pub wants_memory : (s : Stage) (n : ℕ) (ls : List Line) → BeginsText (text_in s) (comes s n ls).text
-wants_memory (Header alloc) n ls = begins_nil (replayed_all ls).text
-wants_memory (Pool play) n ls = begins_it play.text.items (replayed_lines (runner_of input_of misfit (host_standing play.machine)) n ls).text
-wants_memory (Service play) n ls = begins_it play.text.items (replayed_lines (runner_of input_of misfit (station_standing play.machine)) n ls).text
+pub in-front : (s : Stage) → IsInFront plays text_in s
+in-front (Header alloc) = λ n ls. begins_nil (replayed_all ls).text
+in-front (Pool play) = λ n ls. begins_it play.text.items (replayed_lines (runner_of (input_of play.version) misfit (host_standing play.machine)) n ls).text
+in-front (Service play) = λ n ls. begins_it play.text.items (replayed_lines (runner_of (input_of play.version) misfit (station_standing play.machine)) n ls).text

@@ -1,8 +1,11 @@
 -- What a replay writes of a schedule whose first line is a header is the text of a story that is orderly and grounded.
 use Rattle.std.proofs.Common.{◌≡◌, ◌≢◌, ℕ, List, [], ◌∷◌, inl, inr, Option, Some, None, refl, sym, ◌∙◌, ap, subst, arith}
+use Rattle.std.specs.Option.{option_map}
 use Rattle.std.specs.Prelude.{IfSome}
 use Rattle.tree_specs.specs.declared.question.Input.{Input}
+use Rattle.tree_specs.specs.declared.schedule.Header.{Header}
 use Rattle.tree_specs.specs.declared.schedule.Mode.{Mode}
+use Rattle.tree_specs.specs.declared.schedule.Version.{Version}
 use Rattle.tree_specs.specs.declared.schedule.Mode.TheVariants.{Pool, Service}
 use Rattle.tree_specs.specs.declared.schedule.Reason.{Reason}
 use Rattle.tree_specs.specs.declared.schedule.Reason.TheVariants.{Form}
@@ -25,10 +28,10 @@ use Rattle.schedule_replay.proofs.WholeLaws.{runs-or-none}
 
 -- where the first line isn't refused a host or a service runs the others
 story-text : (ls : List Line) → ((why : Reason) → (judged_lines runs ls).refused ≢ Some (1, why))
-    → (mode : Mode) × (mode_in ls ≡ Some mode) × (transcript_lines runs ls ≡ transcript_by runs (Some (runner_in mode)) (judged_lines runs ls).inputs)
+    → (v : Version) × (mode : Mode) × (mode_in ls ≡ Some mode) × (transcript_lines runs ls ≡ transcript_by runs (Some (runner_in v mode)) (judged_lines runs ls).inputs)
 unfolding judged_lines transcript_lines
 story-text [] later = absurd (later Form refl)
-story-text (first ∷ rest) later = elim (runs-or-none first) [ inl none ↦ absurd (later (header_reason first) (rw none refl)) | inr some ↦ (some.0, some.1, rw some.2 refl) ]
+story-text (first ∷ rest) later = elim (runs-or-none first) [ inl none ↦ absurd (later (header_reason first) (rw none refl)) | inr some ↦ (some.0.version, some.0.mode, ap (λ (o : Option Header). option_map (λ h. h.mode) o) some.1, rw some.2 refl) ]
 
 abbrev line_in : Option (ℕ × Reason) → ℕ
 line_in None = 0
@@ -47,23 +50,23 @@ behind-it is held now text = each (inputs_behind is) refl text
     each None e text = nothing-told held now text
     each (Some js) e text = (js, e)
 
-story-in : (mode : Mode) (is : List Input) (held now : Option (List ℕ)) → WritesText (transcript_by runs (Some (runner_in mode)) is) held now → WritesStoryIn (Some mode) is held now
-story-in Pool is held now text = record {
+story-in : (v : Version) (mode : Mode) (is : List Input) (held now : Option (List ℕ)) → WritesText (transcript_by runs (Some (runner_in v mode)) is) held now → WritesStoryIn (Some mode) is held now
+story-in v Pool is held now text = record {
   scenes = story 1 is;
   inputs = refl;
   text = text;
   orderly = story-orderly 1 is (omega arith);
   grounded = story-grounded 1 is (omega arith);
 }
-story-in Service is held now text =
+story-in v Service is held now text =
     let b = behind-it is held now text in
     record { text = text; orderly = service-orderly is; behind = b.0; filled = b.1; grounded = story-grounded 1 b.0 (omega arith) }
 
 writes-story : (bytes : List ℕ) (held now : Option (List ℕ)) → ((why : Reason) → judge bytes ≢ Some (1, why)) → WritesText (transcript_of bytes) held now → WritesStory bytes held now
 writes-story bytes held now later text =
     let s = story-text (lines bytes) later in
-    subst (λ (m : Option Mode). WritesStoryIn m (inputs_of bytes) held now) (sym s.1)
-    (story-in s.0 (inputs_of bytes) held now (subst (λ (o : Option (List ℕ)). WritesText o held now) s.2 text))
+    subst (λ (m : Option Mode). WritesStoryIn m (inputs_of bytes) held now) (sym s.2)
+    (story-in s.0 s.1 (inputs_of bytes) held now (subst (λ (o : Option (List ℕ)). WritesText o held now) s.3 text))
 
 pub done-story : (left : Option (List ℕ)) (rest held now : Option (List ℕ)) (ran : Ran) → IfSome left (λ bytes. Replays bytes rest held now ran) → ran ≡ rans.Done → IfSome left (λ bytes. WritesStory bytes held now)
 done-story None rest held now ran h e = tt

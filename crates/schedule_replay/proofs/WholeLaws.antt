@@ -1,15 +1,14 @@
 -- A whole replay, in the words of schedules and transcripts: their first line says what runs the others.
-use Rattle.std.proofs.Common.{◌≡◌, ℕ, suc, ◌<◌, ◌≤◌, Bool, true, false, cond, ltb, ◌||◌, ◌⊎◌, inl, inr, List, [], ◌∷◌, ◌++◌, length, Option, Some, None, refl, sym, ap, subst, ◌∙◌, arith}
+use Rattle.std.proofs.Common.{◌≡◌, ℕ, suc, ◌≤◌, Bool, true, false, cond, ◌⊎◌, inl, inr, List, [], ◌∷◌, ◌++◌, length, Option, Some, None, refl, sym, ap, subst, ◌∙◌, arith}
 use Rattle.std.specs.Io.KnownBytes.{Appends, IsAtEnd}
 use Rattle.std.specs.Option.{option_map}
 use Rattle.std.specs.Prelude.{IfSome}
-use Rattle.std.specs.Str.{bytes_eq}
 use Rattle.std.proofs.KnownBytes.{Appends-nil}
-use Rattle.std.proofs.lemmas.Bool.Decides.{nat_tests}
-use Rattle.std.proofs.lemmas.Slice.Eq.{bytes_eq-Decides}
 use Rattle.step_machine.specs.Open.{LastIs}
+use Rattle.tree_specs.specs.declared.schedule.Header.{Header}
 use Rattle.tree_specs.specs.declared.schedule.Mode.{Mode}
 use Rattle.tree_specs.specs.declared.schedule.Mode.TheVariants.{Pool, Service}
+use Rattle.tree_specs.specs.declared.schedule.Version.{Version}
 use Rattle.tree_specs.specs.declared.schedule.Reason.{Reason}
 use Rattle.tree_specs.specs.declared.schedule.Reason.TheVariants.{Limit, Form}
 use Rattle.tree_specs.specs.declared.question.Input.{Input}
@@ -20,7 +19,7 @@ use Rattle.tree_specs.specs.Rules.Story.{story, items}
 use Rattle.tree_specs.specs.Texts.Grammar.{input_of}
 use Rattle.tree_specs.specs.Texts.Lines.{Line, lines, is_over_limit, line_limit}
 use Rattle.tree_specs.specs.Texts.Runners.{Runner, header_reason, runner_after, judged_lines, transcript_by, transcript_lines}
-use Rattle.tree_specs.specs.Texts.Schedule.{pool_header, service_header, mode_of, misfit, runner_by, pool_runner}
+use Rattle.tree_specs.specs.Texts.Schedule.{header_of, says, misfit, runner_by, pool_runner}
 use Rattle.tree_specs.specs.Texts.Text.{header, item_text, body_text, end_text}
 use Rattle.tree_specs.proofs.Rules.StoryLaws.{story-items, story-strays, story-asks}
 use Rattle.machine_driver.specs.Driver.{driven, items_or_none}
@@ -36,82 +35,67 @@ use Rattle.line_pieces.specs.Takings.{last_lines}
 use Rattle.schedule_replay.specs.Hosts.{host_standing}
 use Rattle.schedule_replay.specs.Stations.{station_standing}
 use Rattle.schedule_replay.specs.Replays.{Replayed, with_front, replayed_lines, BeginsText}
-use Rattle.schedule_replay.specs.Runs.{WritesText, IsDone, IsBad, IsFrontOf, mode_in}
+use Rattle.schedule_replay.specs.Runs.{WritesText, IsDone, IsBad, IsFrontOf, header_in, mode_in}
 use Rattle.schedule_replay.specs.Stages.{replayed_all}
 use Rattle.schedule_replay.specs.Standings.{runner_of}
 use Rattle.schedule_replay.proofs.RunLaws.{follows-lines, not-over}
+use Rattle.schedule_replay.proofs.HeaderLaws.{headerless}
 use Rattle.schedule_replay.proofs.StationLaws.{shows-nothing}
 use Rattle.schedule_replay.proofs.TextLaws.{begins_nil, front-nil}
 
 -- ---- what the first line says
 
-pub runs-or-none : (line : Line) → (runner_after runs line ≡ None) ⊎ ((mode : Mode) × (mode_in (line ∷ []) ≡ Some mode) × (runner_after runs line ≡ Some (runner_in mode)))
+-- what runs the lines after a header that says this
+abbrev run : Header → Runner Input
+run h = runner_in h.version h.mode
+
+pub runs-or-none : (line : Line) → (runner_after runs line ≡ None) ⊎ ((h : Header) × (header_in (line ∷ []) ≡ Some h) × (runner_after runs line ≡ Some (runner_in h.version h.mode)))
 runs-or-none line = by_ended line.ended
   where
-    by_mode : (m : Option Mode) → (option_map runner_in m ≡ None) ⊎ ((mode : Mode) × (m ≡ Some mode) × (option_map runner_in m ≡ Some (runner_in mode)))
-    by_mode None = inl refl
-    by_mode (Some mode) = inr (mode, refl, refl)
+    by_header : (o : Option Header) → (option_map run o ≡ None) ⊎ ((h : Header) × (o ≡ Some h) × (option_map run o ≡ Some (run h)))
+    by_header None = inl refl
+    by_header (Some h) = inr (h, refl, refl)
 
-    by_ended : (b : Bool) → (cond b (runs line.text) None ≡ None) ⊎ ((mode : Mode) × (cond b (mode_of line.text) None ≡ Some mode) × (cond b (runs line.text) None ≡ Some (runner_in mode)))
-    by_ended true = by_mode (mode_of line.text)
+    by_ended : (b : Bool) → (cond b (runs line.text) None ≡ None) ⊎ ((h : Header) × (cond b (header_of line.text) None ≡ Some h) × (cond b (runs line.text) None ≡ Some (run h)))
+    by_ended true = by_header (header_of line.text)
     by_ended false = inl refl
 
-pub runs-so : (text : List ℕ) (mode : Mode) → mode_of text ≡ Some mode → runs text ≡ Some (runner_in mode)
-runs-so text mode e = ap (option_map runner_in) e
+pub runs-so : (text : List ℕ) (v : Version) (mode : Mode) → header_of text ≡ Some (says v mode) → runs text ≡ Some (runner_in v mode)
+runs-so text v mode e = ap (option_map run) e
 
-pub nothing-runs : (text : List ℕ) → mode_of text ≡ None → runs text ≡ None
-nothing-runs text e = ap (option_map runner_in) e
-
--- a line past a limit is no header
-long-text : (text : List ℕ) → 21 < length text → runs text ≡ None
-unfolding mode_of
-long-text text lt = by_test (bytes_eq text pool_header) refl
-  where
-    other : (b : Bool) → bytes_eq text service_header ≡ b → option_map runner_in (cond b (Some Service) None) ≡ None
-    other true e = let n = ap length ((bytes_eq-Decides text service_header).0 e) in absurd (omega (arith, n))
-    other false e = refl
-
-    by_test : (b : Bool) → bytes_eq text pool_header ≡ b → runs text ≡ None
-    by_test true e = let n = ap length ((bytes_eq-Decides text pool_header).0 e) in absurd (omega (arith, n))
-    by_test false e = rw e (other (bytes_eq text service_header) refl)
-
-over-long : (line : Line) → is_over_limit 1 line ≡ true → line_limit < length line.text
-over-long line over = by_test (ltb line_limit (length line.text)) refl over
-  where
-    by_test : (b : Bool) → ltb line_limit (length line.text) ≡ b → (b || false) ≡ true → line_limit < length line.text
-    by_test true e over = grind (arith, nat_tests)
-    by_test false e over = absurd cc
+pub nothing-runs : (text : List ℕ) → header_of text ≡ None → runs text ≡ None
+nothing-runs text e = ap (option_map run) e
 
 no-header : (line : Line) → is_over_limit 1 line ≡ true → runner_after runs line ≡ None
-no-header line over = by_ended line.ended
+no-header line over = by_ended line.ended (headerless line over)
   where
-    by_ended : (b : Bool) → cond b (runs line.text) None ≡ None
-    by_ended true = long-text line.text (let n = over-long line over in omega arith)
-    by_ended false = refl
+    by_ended : (b : Bool) → cond b (header_of line.text) None ≡ None → cond b (runs line.text) None ≡ None
+    by_ended true e = nothing-runs line.text e
+    by_ended false e = refl
 
 -- ---- the first line is taken
 
 -- a host that begins runs lines as the rules tell its story
-host-begins : pool_runner ≡ runner_of input_of misfit (host_standing (begin 1))
-host-begins = λ i. runner_by (λ is. story-items 1 is (omega arith) i) (λ is. sym (story-strays 1 is (omega arith)) i)
+host-begins : (v : Version) → pool_runner v ≡ runner_of (input_of v) misfit (host_standing (begin 1))
+host-begins v = λ i. runner_by v (λ is. story-items 1 is (omega arith) i) (λ is. sym (story-strays 1 is (omega arith)) i)
 
 -- and so does a service
-service-begins : service_runner ≡ runner_of input_of misfit (station_standing unborn)
-service-begins = λ i. runner_by (λ is. ap (λ (o : Option (List Item)). items_or_none o) (sym (first-to-come is)) i) (λ is. sym (first-strays is) i)
+service-begins : (v : Version) → service_runner v ≡ runner_of (input_of v) misfit (station_standing unborn)
+service-begins v = λ i. runner_by v (λ is. ap (λ (o : Option (List Item)). items_or_none o) (sym (first-to-come is)) i) (λ is. sym (first-strays is) i)
 
 taken-so : (text : List ℕ) (rest : List Line) (r : Runner Input) → runs text ≡ Some r → replayed_all (ended_line text ∷ rest) ≡ with_front header (replayed_lines r 2 rest)
 unfolding judged_lines transcript_lines replayed_lines
 taken-so text rest r e = rw e refl
 
-pub pool-taken : (text : List ℕ) (rest : List Line) → mode_of text ≡ Some Pool → replayed_all (ended_line text ∷ rest) ≡ with_front header (replayed_lines (runner_of input_of misfit (host_standing (begin 1))) 2 rest)
-pool-taken text rest e = taken-so text rest pool_runner (runs-so text Pool e) ∙ ap (λ (r : Runner Input). with_front header (replayed_lines r 2 rest)) host-begins
+pub pool-taken : (v : Version) (text : List ℕ) (rest : List Line) → header_of text ≡ Some (says v Pool) → replayed_all (ended_line text ∷ rest) ≡ with_front header (replayed_lines (runner_of (input_of v) misfit (host_standing (begin 1))) 2 rest)
+pool-taken v text rest e = taken-so text rest (pool_runner v) (runs-so text v Pool e) ∙ ap (λ (r : Runner Input). with_front header (replayed_lines r 2 rest)) (host-begins v)
 
 -- by a service of which nothing was seen yet
-pub service-taken : (text : List ℕ) (rest : List Line) (first : StationView) → mode_of text ≡ Some Service → Shows [] unborn first → replayed_all (ended_line text ∷ rest) ≡ with_front header (replayed_lines (runner_of input_of misfit (station_standing first)) 2 rest)
-service-taken text rest first e unseen =
-    let r : Replayed = replayed_lines (runner_of input_of misfit (station_standing first)) 2 rest in
-    taken-so text rest service_runner (runs-so text Service e) ∙ ap (λ (r : Runner Input). with_front header (replayed_lines r 2 rest)) service-begins
-    ∙ ap (with_front header) (follows-lines input_of misfit [] (station_standing unborn) (station_standing first) 2 rest (shows-nothing unborn first unseen) ∙ sym (front-nil r))
+pub service-taken : (v : Version) (text : List ℕ) (rest : List Line) (first : StationView) → header_of text ≡ Some (says v Service) → Shows [] unborn first → replayed_all (ended_line text ∷ rest) ≡ with_front header (replayed_lines (runner_of (input_of v) misfit (station_standing first)) 2 rest)
+service-taken v text rest first e unseen =
+    let r : Replayed = replayed_lines (runner_of (input_of v) misfit (station_standing first)) 2 rest in
+    taken-so text rest (service_runner v) (runs-so text v Service e) ∙ ap (λ (r : Runner Input). with_front header (replayed_lines r 2 rest)) (service-begins v)
+    ∙ ap (with_front header) (follows-lines (input_of v) misfit [] (station_standing unborn) (station_standing first) 2 rest (shows-nothing unborn first unseen) ∙ sym (front-nil r))
 
 -- ---- it is refused
 
@@ -149,8 +133,8 @@ text_some (Asked q ∷ []) h = (end_text q, refl)
 text_some (i ∷ j ∷ rest) h = let t = text_some (j ∷ rest) h in (item_text i ++ t.0, rw t.1 refl)
 
 -- a service's story ends with its question, unless it has given all the answers that it may
-service-text : (is : List Input) → ((text : List ℕ) × (service_runner.told is ≡ Some text)) ⊎ (service_story is ≡ [])
-service-text is = each (driven station (suc (answers (length is))) nothing_known machine is) refl
+service-text : (v : Version) (is : List Input) → ((text : List ℕ) × ((service_runner v).told is ≡ Some text)) ⊎ (service_story is ≡ [])
+service-text v is = each (driven station (suc (answers (length is))) nothing_known machine is) refl
   where
     each : (o : Option (List Item)) → driven station (suc (answers (length is))) nothing_known machine is ≡ o → ((text : List ℕ) × (body_text (items_or_none o) ≡ Some text)) ⊎ (items_or_none o ≡ [])
     each None e = inr refl
@@ -159,18 +143,25 @@ service-text is = each (driven station (suc (answers (length is))) nothing_known
 Has : Option (List ℕ) → Option Mode → List Input → Type 0
 Has o mode is = ((text : List ℕ) × (o ≡ Some text)) ⊎ ((mode ≡ Some Service) × (service_story is ≡ []))
 
-runner-text : (m : Option Mode) (is : List Input) → Has (transcript_by runs (option_map runner_in m) is) m is
+mode-text : (v : Version) (mode : Mode) (is : List Input) → Has (transcript_by runs (Some (runner_in v mode)) is) (Some mode) is
 unfolding Has
-runner-text (Some Pool) is = let t = text_some (items (story 1 is)) (story-asks 1 is (omega arith)) in inl (header ++ t.0, rw t.1 refl)
-runner-text (Some Service) is = elim (service-text is) [ inl t ↦ inl (header ++ t.0, ap (option_map (λ (text : List ℕ). header ++ text)) t.1) | inr out ↦ inr (refl, out) ]
-runner-text None is = inl ([], refl)
+mode-text v Pool is = let t = text_some (items (story 1 is)) (story-asks 1 is (omega arith)) in inl (header ++ t.0, rw t.1 refl)
+mode-text v Service is = elim (service-text v is) [ inl t ↦ inl (header ++ t.0, ap (option_map (λ (text : List ℕ). header ++ text)) t.1) | inr out ↦ inr (refl, out) ]
+
+abbrev mode_at : Option Header → Option Mode
+mode_at o = option_map (λ h. h.mode) o
+
+header-text : (o : Option Header) (is : List Input) → Has (transcript_by runs (option_map run o) is) (mode_at o) is
+unfolding Has
+header-text (Some h) is = mode-text h.version h.mode is
+header-text None is = inl ([], refl)
 
 first-text : (line : Line) (is : List Input) → Has (transcript_by runs (runner_after runs line) is) (mode_in (line ∷ [])) is
 unfolding Has
 first-text line is = by_ended line.ended
   where
-    by_ended : (b : Bool) → Has (transcript_by runs (cond b (runs line.text) None) is) (cond b (mode_of line.text) None) is
-    by_ended true = runner-text (mode_of line.text) is
+    by_ended : (b : Bool) → Has (transcript_by runs (cond b (runs line.text) None) is) (mode_at (cond b (header_of line.text) None)) is
+    by_ended true = header-text (header_of line.text) is
     by_ended false = inl ([], refl)
 
 lines-text : (ls : List Line) → Has (transcript_lines runs ls) (mode_in ls) (judged_lines runs ls).inputs

@@ -1,4 +1,5 @@
 pub mod Replays
+pub mod Players
 pub mod Questions
 pub mod Standings
 pub mod Hosts
@@ -7,5 +8,8 @@ pub mod Plays
 pub mod Starts
 pub mod Stages
 pub mod Passes
+pub mod Played
 pub mod Runs
 pub mod Stories
+pub mod Converting
+pub mod Converts

@@ -1,28 +1,20 @@
 -- What a replay of a whole schedule writes and answers.
-use Rattle.std.specs.Prelude.{◌≡◌, ◌⊎◌, if◌then◌else◌, ℕ, true, List, [], ◌∷◌, ◌++◌, Option, Some, None, Result, Ok, Err}
+use Rattle.std.specs.Prelude.{◌≡◌, ◌⊎◌, ℕ, true, List, [], ◌∷◌, ◌++◌, Option, Some, None}
 use Rattle.std.specs.Io.KnownBytes.{Appends, Consumes, IsAtEnd}
+use Rattle.std.specs.Option.{option_map}
 use Rattle.tree_specs.specs.declared.question.Ask.{Ask}
 use Rattle.tree_specs.specs.declared.schedule.Reason.{Reason}
 use Rattle.tree_specs.specs.Texts.Text.{end_text}
+use Rattle.tree_specs.specs.declared.schedule.Header.{Header}
 use Rattle.tree_specs.specs.declared.schedule.Mode.{Mode}
 use Rattle.tree_specs.specs.declared.schedule.Mode.TheVariants.{Service}
 use Rattle.tree_specs.specs.Texts.Lines.{Line, lines}
-use Rattle.tree_specs.specs.Texts.Schedule.{mode_of}
 use Rattle.service_rules.specs.Schedules.{judge, inputs_of, transcript_of}
 use Rattle.service_rules.specs.Service.{service_story}
 use Rattle.line_pieces.specs.Cuts.{has_no_lf}
+use Rattle.schedule_versions.specs.Conversions.{header_at}
 use Rattle.schedule_replay.specs.declared.ran.Ran.{Ran}
 use Rattle.schedule_replay.specs.declared.ran.Ran.TheVariants as rans
-use Rattle.schedule_replay.specs.declared.stop.Stop.{Stop}
-use Rattle.schedule_replay.specs.declared.stop.Stop.TheVariants as errors
-
--- what an outcome is called outside
-abbrev pub ran_of : Result (Unit {0}) Stop → Ran
-ran_of (Ok done) = rans.Done
-ran_of (Err errors.Read) = rans.ReadFault
-ran_of (Err (errors.Refused line reason)) = rans.BadSchedule line reason
-ran_of (Err errors.Write) = rans.WriteFault
-ran_of (Err errors.Memory) = rans.Memory
 
 -- this text has been written, and there is one
 abbrev pub WritesText : Option (List ℕ) → Option (List ℕ) → Option (List ℕ) → Type 0
@@ -41,9 +33,13 @@ pub record IsBad (bytes : List ℕ) (line : ℕ) (reason : Reason) (held now : O
   pub text : WritesText (transcript_of bytes) held now
 
 -- what the first line says, where it is a whole one
+abbrev pub header_in : List Line → Option Header
+header_in [] = None
+header_in (first ∷ rest) = header_at first
+
+-- what runs the lines after it
 abbrev pub mode_in : List Line → Option Mode
-mode_in [] = None
-mode_in (first ∷ rest) = if first.ended then mode_of first.text else None
+mode_in ls = option_map (λ h. h.mode) (header_in ls)
 
 -- The service would give more answers than it may, so there is no transcript.
 abbrev pub RunsOut : List ℕ → Type 0

@@ -10,8 +10,8 @@ use Rattle.schedule_replay.specs.declared.stage.Stage.TheVariants.{Header, Pool,
 use Rattle.schedule_replay.specs.declared.stop.Stop.{Stop}
 use Rattle.schedule_replay.specs.Hosts.{host_standing}
 use Rattle.schedule_replay.specs.Stations.{station_standing}
-use Rattle.schedule_replay.specs.Plays.{comes as play_comes}
-use Rattle.schedule_replay.specs.Replays.{Replayed, with_front, StopsWith, EndsWith}
+use Rattle.schedule_replay.specs.Plays.{comes}
+use Rattle.schedule_replay.specs.Replays.{Replayed}
 use Rattle.schedule_replay.specs.Standings.{Waits}
 use Rattle.schedule_replay.specs.Starts.{StartsAfter}
 
@@ -24,10 +24,10 @@ IsAtHeader (Header alloc) = Unit {0}
 IsAtHeader (Pool play) = ⊥
 IsAtHeader (Service play) = ⊥
 
-abbrev pub comes : Stage → ℕ → List Line → Replayed
-comes (Header alloc) n ls = replayed_all ls
-comes (Pool play) n ls = play_comes input_of misfit host_standing play n ls
-comes (Service play) n ls = play_comes input_of misfit station_standing play n ls
+abbrev pub plays : Stage → ℕ → List Line → Replayed
+plays (Header alloc) n ls = replayed_all ls
+plays (Pool play) n ls = comes (input_of play.version) misfit host_standing play n ls
+plays (Service play) n ls = comes (input_of play.version) misfit station_standing play n ls
 
 -- what is to be written next
 abbrev pub text_in : Stage → List ℕ
@@ -39,18 +39,6 @@ abbrev pub ready : Stage → ℕ → Type 0
 ready (Header alloc) n = n ≡ 1
 ready (Pool play) n = Waits (host_standing play.machine)
 ready (Service play) n = Waits (station_standing play.machine)
-
-abbrev pub stops : Stop → Stage → Replayed → Type 0
-stops e s found = StopsWith e (text_in s) found
-
-abbrev pub ends : Stage → Replayed → Type 0
-ends s found = EndsWith (text_in s) found
-
--- What was to be written is no more, and else all is as it was.
-pub record IsEmptied (s t : Stage) : Type 0 where
-  pub empty : text_in t ≡ []
-  pub goes_on : (n : ℕ) (ls : List Line) → comes s n ls ≡ with_front (text_in s) (comes t n ls)
-  pub waits : (n : ℕ) → ready s n → ready t n
 
 -- The first line was taken, or is refused, or there was no memory.
 abbrev pub TakesHeader : List ℕ → Stage → Stage → Result (Unit {0}) Stop → Type 0

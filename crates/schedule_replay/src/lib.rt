@@ -1,18 +1,25 @@
-//! Replaying a schedule into its transcript: bytes in, bytes out. What runs its lines is a `Machine`.
+//! Replaying a schedule into its transcript, and turning it into the second version: bytes in, bytes out. What plays its
+//! lines is a `Player`; that of a replay runs them by a `Machine`.
 #![tactic(auto)]
 
+mod conversion;
+mod converting;
+mod header;
 mod machine;
 mod over_host;
 mod over_station;
 mod play;
+mod player;
 mod ran;
+mod replaying;
 mod session;
 mod stage;
 mod stop;
 mod telling;
 
+pub use converting::convert;
 pub use machine::Machine;
 pub use play::Play;
 pub use ran::Ran;
-pub use session::replay;
+pub use replaying::replay;
 pub use stop::Stop;

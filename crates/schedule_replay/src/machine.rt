@@ -5,6 +5,7 @@ ghost use Rattle.text_forms.specs.Reads.{Reads};
 ghost use Rattle.tree_specs.specs.declared.question.Ask.{Ask as AskData};
 ghost use Rattle.tree_specs.specs.declared.schedule.Reason.{Reason as ReasonData};
 ghost use Rattle.tree_specs.specs.declared.schedule.Reason.TheVariants as reasons;
+ghost use Rattle.tree_specs.specs.declared.schedule.Version.{Version as VersionData};
 ghost use Rattle.tree_specs.specs.Texts.Written.{Writes};
 ghost use Rattle.host_core.specs.declared.fault.OfferFault.TheVariants as faults;
 ghost use Rattle.schedule_replay.specs.Standings.{Standing, Waits, unfit, Nexts, TakesInput, TriesInput};
@@ -12,7 +13,7 @@ ghost use Rattle.schedule_replay.specs.Standings.{Standing, Waits, unfit, Nexts,
 use host_core::OfferFault;
 use std::alloc::Global;
 use text_forms::FormFault;
-use tree_specs::{Ask, Memory};
+use tree_specs::{Ask, Memory, Version};
 
 /// What runs the lines of a schedule: it is given what they spell, and tells its questions and what comes between
 /// them. Contracts see it as a standing: the text that is still to come, over all that it may be given.
@@ -23,8 +24,8 @@ pub trait Machine: Drop {
     /// What is told besides questions.
     type Told: Drop;
 
-    /// What the line spells, without its LF.
-    ghost reads: { List ℕ → Option Self.Given };
+    /// What a line of a schedule of this version spells, without its LF.
+    ghost reads: { VersionData → List ℕ → Option Self.Given };
 
     /// Why this is no answer to the open question.
     ghost misfit: { Option AskData → Self.Given → Option ReasonData };
@@ -38,9 +39,10 @@ pub trait Machine: Drop {
     /// What it is to whoever runs lines by it.
     ghost standing: { Self → Standing Self.Given };
 
-    /// What the line spells, the line without its LF. NoForm exactly where it spells nothing, unless memory ran out.
-    fn read(alloc: Global, line: &[u8]) -> Result<Self::Given, FormFault>
-        ensures value { Reads result (reads line.now) }
+    /// What a line of a schedule of this version spells, the line without its LF. NoForm exactly where it spells nothing,
+    /// unless memory ran out.
+    fn read(alloc: Global, line: &[u8], version: Version) -> Result<Self::Given, FormFault>
+        ensures value { Reads result (reads version line.now) }
         ensures sound { IfOk result (λ given. IsTrue (is_sound given)) };
 
     /// Appends the line of what was told. When memory runs out, a prefix of it was appended.

@@ -14,7 +14,7 @@ use host_core::{Host, OfferFault};
 use schedule_text::{read_line, write_event, write_reply};
 use std::alloc::Global;
 use text_forms::FormFault;
-use tree_specs::{Ask, Call, Event, Input, Memory, Reply};
+use tree_specs::{Ask, Call, Event, Input, Memory, Reply, Version};
 
 /// Appends the line of a reply, or nothing when memory runs out.
 #[inline(always)]
@@ -62,8 +62,8 @@ impl Machine for Host {
     ghost standing = { host_standing };
 
     #[inline(always)]
-    fn read(alloc: Global, line: &[u8]) -> Result<Input, FormFault> {
-        read_line(alloc, line)
+    fn read(alloc: Global, line: &[u8], version: Version) -> Result<Input, FormFault> {
+        read_line(alloc, line, version)
     }
 
     fn write(told: Event, text: &mut Vec<u8>) -> Result<(), Memory> {

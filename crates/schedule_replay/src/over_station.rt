@@ -11,7 +11,7 @@ use line_service::Station;
 use schedule_text::{read_line, write_event};
 use std::alloc::Global;
 use text_forms::FormFault;
-use tree_specs::{Ask, Event, Input, Memory};
+use tree_specs::{Ask, Event, Input, Memory, Version};
 
 impl Machine for Station {
     type Given = Input;
@@ -28,8 +28,8 @@ impl Machine for Station {
 
     ghost standing = { station_standing };
 
-    fn read(alloc: Global, line: &[u8]) -> Result<Input, FormFault> {
-        read_line(alloc, line)
+    fn read(alloc: Global, line: &[u8], version: Version) -> Result<Input, FormFault> {
+        read_line(alloc, line, version)
     }
 
     fn write(told: Event, text: &mut Vec<u8>) -> Result<(), Memory> {

@@ -13,7 +13,7 @@ use host_core::OfferFault;
 use schedule_text::{write_answered, write_end};
 use std::alloc::Global;
 use text_forms::FormFault;
-use tree_specs::{Memory, Reason};
+use tree_specs::{Memory, Reason, Version};
 
 /// Writes the line of the open question as one that is answered.
 fn write_asked<M: Machine>(machine: &M, text: &mut Vec<u8>) -> Result<(), Memory>
@@ -28,6 +28,8 @@ fn write_asked<M: Machine>(machine: &M, text: &mut Vec<u8>) -> Result<(), Memory
 /// A machine that runs lines, and what is to be written of them.
 #[derive(Drop)]
 pub struct Play<M> {
+    /// How the lines are spelled.
+    version: Version,
     machine: M,
     /// What is to be written next.
     pub text: Vec<u8>,
@@ -37,10 +39,12 @@ impl<M: Machine> Play<M> {
     ghost use Rattle.schedule_replay.specs.Plays.{comes, stops, ends, Begins, GivesInput, RefusesHere};
 
     /// Begins the transcript, up to the machine's first question.
-    pub fn begin(alloc: Global, machine: M) -> Result<Play<M>, Memory>
-        ensures { IfOk result (λ play. Begins M.reads M.misfit M.standing machine play) }
+    pub fn begin(alloc: Global, version: Version, machine: M) -> Result<Play<M>, Memory>
+        ensures version { IfOk result (λ play. play.version ≡ version) }
+        ensures begins { IfOk result (λ play. Begins (M.reads version) M.misfit M.standing machine play) }
     {
         let mut play = Play {
+            version,
             machine,
             text: Vec::new(alloc),
         };
@@ -74,6 +78,7 @@ impl<M: Machine> Play<M> {
         ensures text { OnOk result (self.new.text.items ≡ self.old.text.items ++ answered_of (M.standing self.old.machine).asked) }
         ensures kept { OnErr result (self.new.text.items ≡ self.old.text.items) }
         ensures machine { self.new.machine ≡ self.old.machine }
+        ensures version { self.new.version ≡ self.old.version }
     {
         let began = self.text.len();
         let written = write_asked(&self.machine, &mut self.text);
@@ -89,8 +94,9 @@ impl<M: Machine> Play<M> {
         requires ready { Waits (M.standing self.old.machine) }
         requires sound { IsTrue (M.is_sound given) }
         requires last { line ≤ lines_limit }
-        ensures taken { GivesInput M.reads M.misfit M.standing self.old line given self.new result }
+        ensures taken { GivesInput (M.reads self.old.version) M.misfit M.standing self.old line given self.new result }
         ensures ready { OnOk result (Waits (M.standing self.new.machine)) }
+        ensures version { OnOk result (self.new.version ≡ self.old.version) }
     {
         let began = self.text.len();
         self.write_question()?;
@@ -115,8 +121,9 @@ impl<M: Machine> Play<M> {
         requires ready { Waits (M.standing self.old.machine) }
         requires sound { IsTrue (M.is_sound given) }
         requires last { line ≤ lines_limit }
-        ensures taken { GivesInput M.reads M.misfit M.standing self.old line given self.new result }
+        ensures taken { GivesInput (M.reads self.old.version) M.misfit M.standing self.old line given self.new result }
         ensures ready { OnOk result (Waits (M.standing self.new.machine)) }
+        ensures version { OnOk result (self.new.version ≡ self.old.version) }
     {
         if let Some(given) = self.machine.take_at_once(given, &mut self.text)? {
             return self.answer(line, given);
@@ -130,10 +137,11 @@ impl<M: Machine> Play<M> {
         requires ready { Waits (M.standing self.old.machine) }
         requires last { number ≤ lines_limit }
         requires short { length line.now ≤ line_limit }
-        ensures taken { TakesLine (comes M.reads M.misfit M.standing) stops self.old number line.now self.new result }
+        ensures taken { TakesLine (comes (M.reads self.old.version) M.misfit M.standing) stops self.old number line.now self.new result }
         ensures ready { OnOk result (Waits (M.standing self.new.machine)) }
+        ensures version { OnOk result (self.new.version ≡ self.old.version) }
     {
-        match M::read(*self.text.allocator(), line) {
+        match M::read(*self.text.allocator(), line, self.version) {
             Ok(given) => self.give(number, given),
             Err(FormFault::NoForm) => Err(self.refuse(number, Reason::Form)),
             Err(FormFault::Memory) => Err(Stop::Memory),
@@ -143,7 +151,7 @@ impl<M: Machine> Play<M> {
     /// The line with this number is over a limit.
     pub fn refuse_limit(&mut self, number: u64) -> Stop
         requires { Waits (M.standing self.old.machine) }
-        ensures { RefusesLimit (comes M.reads M.misfit M.standing) stops self.old number self.new result }
+        ensures { RefusesLimit (comes (M.reads self.old.version) M.misfit M.standing) stops self.old number self.new result }
     {
         self.refuse(number, Reason::Limit)
     }
@@ -152,7 +160,7 @@ impl<M: Machine> Play<M> {
     pub fn finish(&mut self, number: u64, cut: bool) -> Result<(), Stop>
         requires ready { Waits (M.standing self.old.machine) }
         requires within { IsTrue cut → number ≤ lines_limit }
-        ensures { TakesEnd (comes M.reads M.misfit M.standing) stops ends self.old number cut self.new result }
+        ensures { TakesEnd (comes (M.reads self.old.version) M.misfit M.standing) stops ends self.old number cut self.new result }
     {
         if cut {
             return Err(self.refuse(number, Reason::Form));

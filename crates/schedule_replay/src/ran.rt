@@ -1,14 +1,14 @@
-//! How a replay ends.
+//! How a replay ends, or a conversion.
 ghost use Rattle.std.specs.Prelude.{◌≡◌};
-ghost use Rattle.schedule_replay.specs.Runs.{ran_of};
+ghost use Rattle.schedule_replay.specs.Played.{ran_of};
 
 use crate::stop::Stop;
 use tree_specs::Reason;
 
-/// How a replay ended.
+/// How a replay ended, or a conversion.
 #[derive(Clone, Copy, PartialEq, Eq)]
 pub enum Ran {
-    /// The whole schedule was replayed.
+    /// The whole schedule was replayed, or converted.
     Done,
     /// A read failed, and the source counted it.
     ReadFault,
@@ -20,7 +20,7 @@ pub enum Ran {
     Memory,
 }
 
-/// How a replay ended that was read to its end, or was stopped.
+/// How it ended that was read to its end, or was stopped.
 pub fn ending(outcome: Result<(), Stop>) -> Ran
     ensures { result ≡ ran_of outcome }
 {

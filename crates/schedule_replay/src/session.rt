@@ -1,45 +1,42 @@
-//! Replaying what a source gives into what a sink takes.
-ghost use Rattle.std.specs.Prelude.{◌≡◌, ◌≢◌, ℕ, ◌≤◌, ◌<◌, ◌+◌, ◌⊎◌, [], None, Err, IfOk, IfSome, OnOk, length};
-ghost use Rattle.service_rules.specs.Schedules.{judge};
-ghost use Rattle.outside.specs.Causes.{Rose, Counts};
+//! Reading a schedule from a source, and writing what is played of it into a sink, whatever plays its lines.
+ghost use Rattle.std.specs.Prelude.{◌≡◌, ◌≤◌, ◌<◌, ◌+◌, [], Err, IfOk, IfSome, OnOk, length};
+ghost use Rattle.outside.specs.Causes.{Counts};
 ghost use Rattle.outside.specs.Outputs.{PutsAll};
 ghost use Rattle.line_pieces.specs.Readings.{IsBetweenBytes, room_left};
 ghost use Rattle.line_pieces.specs.States.{reading_of};
-ghost use Rattle.schedule_replay.specs.Stages.{IsEmptied, ready, text_in};
 ghost use Rattle.schedule_replay.specs.Passes.{IsFresh, PassesRun, PassesPiece, PassesEnd};
-ghost use Rattle.schedule_replay.specs.Runs.{Replays, ran_of};
-ghost use Rattle.schedule_replay.specs.Stories.{WritesStory};
-ghost use Rattle.tree_specs.specs.declared.schedule.Reason.{Reason};
+ghost use Rattle.schedule_replay.specs.Played.{Plays, ran_of};
+ghost use Rattle.schedule_replay.specs.Players.{IsEmptied, IsInFront};
 
-use crate::ran::{Ran, ending};
-use crate::stage::Stage;
+use crate::player::{Player, Taker};
 use crate::stop::Stop;
 use line_pieces::LineReader;
 use outside::{Got, PutError, Sink, Source, put_all};
 use std::alloc::Global;
 
 /// Writes what is to be written next. At an error a prefix of it is written.
-fn put_text<K: Sink>(stage: &mut Stage, out: &mut K) -> Result<(), PutError>
-    ensures bytes { PutsAll (K.held out.old) (K.held out.new) result (text_in stage.old) }
+fn put_text<P: Player, K: Sink>(taker: &mut Taker<P>, out: &mut K) -> Result<(), PutError>
+    ensures bytes { PutsAll (K.held out.old) (K.held out.new) result (P.text_in taker.old) }
     ensures cause { Counts (K.faults out.old) (K.faults out.new) (result ≡ Err PutError.Write) }
-    ensures emptied { OnOk result (IsEmptied stage.old stage.new) }
+    ensures emptied { OnOk result (IsEmptied P.plays P.text_in P.ready taker.old taker.new) }
+    ensures front { IsInFront P.plays P.text_in taker.old }
 {
-    put_all(out, stage.text())?;
-    stage.clear_text();
+    put_all(out, taker.player.text())?;
+    taker.player.clear_text();
     Ok(())
 }
 
-/// Takes the next bytes, as many as come before there is much to be written, and writes what comes of them, before an error
-/// too. What is left of the piece is to be taken next.
-fn take_run<'a, K: Sink>(
-    reader: &mut LineReader<Stage>,
+/// Takes the next bytes, as many as come before there is much to be written, and writes what comes of them, before an
+/// error too. What is left of the piece is to be taken next.
+fn take_run<'a, P: Player, K: Sink>(
+    reader: &mut LineReader<Taker<P>>,
     piece: &'a [u8],
     out: &mut K,
 ) -> Result<&'a [u8], Stop>
-    requires ready { IsBetweenBytes ready (reading_of reader.old) }
-    ensures passed { PassesRun (reading_of reader.old) piece.now (reading_of reader.new) (K.held out.old) (K.held out.new) result }
-    ensures ready { OnOk result (IsBetweenBytes ready (reading_of reader.new)) }
-    ensures empty { OnOk result (text_in reader.new.taker ≡ []) }
+    requires ready { IsBetweenBytes P.ready (reading_of reader.old) }
+    ensures passed { PassesRun P.plays (reading_of reader.old) piece.now (reading_of reader.new) (K.held out.old) (K.held out.new) result }
+    ensures ready { OnOk result (IsBetweenBytes P.ready (reading_of reader.new)) }
+    ensures empty { OnOk result (P.text_in reader.new.taker ≡ []) }
     ensures progress { IfOk result (λ rest. room_left (reading_of reader.new) + length piece.now ≤ room_left (reading_of reader.old) + length rest.now) }
     ensures shorter { IfOk result (λ rest. 0 < length piece.now → length rest.now < length piece.now) }
     ensures cause { Counts (K.faults out.old) (K.faults out.new) (result ≡ Err Stop.Write) }
@@ -50,16 +47,16 @@ fn take_run<'a, K: Sink>(
 }
 
 /// Takes the next bytes, and writes what comes of them, before an error too.
-fn take_piece<K: Sink>(
-    reader: &mut LineReader<Stage>,
+fn take_piece<P: Player, K: Sink>(
+    reader: &mut LineReader<Taker<P>>,
     piece: &[u8],
     out: &mut K,
 ) -> Result<(), Stop>
-    requires ready { IsBetweenBytes ready (reading_of reader.old) }
-    requires empty { text_in reader.old.taker ≡ [] }
-    ensures passed { PassesPiece (reading_of reader.old) piece.now (reading_of reader.new) (K.held out.old) (K.held out.new) result }
-    ensures ready { OnOk result (IsBetweenBytes ready (reading_of reader.new)) }
-    ensures empty { OnOk result (text_in reader.new.taker ≡ []) }
+    requires ready { IsBetweenBytes P.ready (reading_of reader.old) }
+    requires empty { P.text_in reader.old.taker ≡ [] }
+    ensures passed { PassesPiece P.plays (reading_of reader.old) piece.now (reading_of reader.new) (K.held out.old) (K.held out.new) result }
+    ensures ready { OnOk result (IsBetweenBytes P.ready (reading_of reader.new)) }
+    ensures empty { OnOk result (P.text_in reader.new.taker ≡ []) }
     ensures progress { OnOk result (room_left (reading_of reader.new) + length piece.now ≤ room_left (reading_of reader.old)) }
     ensures cause { Counts (K.faults out.old) (K.faults out.new) (result ≡ Err Stop.Write) }
 {
@@ -71,9 +68,9 @@ fn take_piece<K: Sink>(
 }
 
 /// Takes the end of the schedule, and writes what comes of it, before an error too.
-fn take_end<K: Sink>(reader: &mut LineReader<Stage>, out: &mut K) -> Result<(), Stop>
-    requires ready { IsBetweenBytes ready (reading_of reader.old) }
-    ensures passed { PassesEnd (reading_of reader.old) (K.held out.old) (K.held out.new) result }
+fn take_end<P: Player, K: Sink>(reader: &mut LineReader<Taker<P>>, out: &mut K) -> Result<(), Stop>
+    requires ready { IsBetweenBytes P.ready (reading_of reader.old) }
+    ensures passed { PassesEnd P.plays (reading_of reader.old) (K.held out.old) (K.held out.new) result }
     ensures cause { Counts (K.faults out.old) (K.faults out.new) (result ≡ Err Stop.Write) }
 {
     let taken = reader.finish();
@@ -82,15 +79,15 @@ fn take_end<K: Sink>(reader: &mut LineReader<Stage>, out: &mut K) -> Result<(), 
     Ok(())
 }
 
-/// Reads a schedule to its end, from its first byte on, and writes its transcript.
-fn pass<S: Source, K: Sink>(
-    reader: &mut LineReader<Stage>,
+/// Reads a schedule to its end, from its first byte on, and writes what is played of it.
+fn pass<P: Player, S: Source, K: Sink>(
+    reader: &mut LineReader<Taker<P>>,
     input: &mut S,
     out: &mut K,
 ) -> Result<(), Stop>
-    requires fresh { IsFresh (reading_of reader.old) }
-    requires ready { IsBetweenBytes ready (reading_of reader.old) }
-    ensures replays { IfSome (S.left input.old) (λ bytes. Replays bytes (S.left input.new) (K.held out.old) (K.held out.new) (ran_of result)) }
+    requires fresh { IsFresh P.text_in (reading_of reader.old) }
+    requires ready { IsBetweenBytes P.ready (reading_of reader.old) }
+    ensures plays { IfSome (S.left input.old) (λ bytes. Plays P.plays P.text_in P.ready reader.old.taker bytes (S.left input.new) (K.held out.old) (K.held out.new) (ran_of result)) }
     ensures reads { Counts (S.faults input.old) (S.faults input.new) (result ≡ Err Stop.Read) }
     ensures writes { Counts (K.faults out.old) (K.faults out.new) (result ≡ Err Stop.Write) }
 {
@@ -104,39 +101,21 @@ fn pass<S: Source, K: Sink>(
     }
 }
 
-/// Reads a schedule to its end, and writes its transcript.
-fn run<S: Source, K: Sink>(alloc: Global, input: &mut S, out: &mut K) -> Result<(), Stop>
-    ensures replays { IfSome (S.left input.old) (λ bytes. Replays bytes (S.left input.new) (K.held out.old) (K.held out.new) (ran_of result)) }
+/// Reads a schedule to its end, and writes what this player plays of it.
+pub(crate) fn play<P: Player, S: Source, K: Sink>(
+    alloc: Global,
+    player: P,
+    input: &mut S,
+    out: &mut K,
+) -> Result<(), Stop>
+    requires ready { P.ready player 1 }
+    requires empty { P.text_in player ≡ [] }
+    ensures plays { IfSome (S.left input.old) (λ bytes. Plays P.plays P.text_in P.ready player bytes (S.left input.new) (K.held out.old) (K.held out.new) (ran_of result)) }
     ensures reads { Counts (S.faults input.old) (S.faults input.new) (result ≡ Err Stop.Read) }
     ensures writes { Counts (K.faults out.old) (K.faults out.new) (result ≡ Err Stop.Write) }
 {
-    let mut reader = LineReader::new(alloc, Stage::Header(alloc));
+    let mut reader = LineReader::new(alloc, Taker { player });
     let passed = pass(&mut reader, input, out);
     drop(reader);
     passed
-}
-
-/// Replays the schedule that the source gives into its transcript, which goes to the sink piece by
-/// piece.
-///
-/// The memory that it takes is that of the rows that exist, of one line, of 65,536 bytes that are to be written and of what
-/// one line tells.
-pub fn replay<S: Source, K: Sink>(alloc: Global, input: &mut S, out: &mut K) -> Ran
-    // At the end all is read, no line is rejected and the transcript is written; a rejected line is the first one; at a
-    // fault, and when memory runs out, a prefix of the transcript is written.
-    ensures replays { IfSome (S.left input.old) (λ bytes. Replays bytes (S.left input.new) (K.held out.old) (K.held out.new) result) }
-
-    // What is written of a schedule whose first line is a header is the text of one story, that of a host or of a line
-    // service over its inputs: in this story a destructor accepts at most once, what is freed had its destructor accept,
-    // nothing starts for what is freed, and to free a live object is refused only while it is held, running or refused.
-    ensures story { result ≡ Ran.Done → IfSome (S.left input.old) (λ bytes. WritesStory bytes (K.held out.old) (K.held out.new)) }
-    ensures story_before { (line : ℕ) (reason : Reason) → result ≡ Ran.BadSchedule line reason → line ≢ 1 → IfSome (S.left input.old) (λ bytes. WritesStory bytes (K.held out.old) (K.held out.new)) }
-    ensures read { Counts (S.faults input.old) (S.faults input.new) (result ≡ Ran.ReadFault) }
-    ensures write { Counts (K.faults out.old) (K.faults out.new) (result ≡ Ran.WriteFault) }
-
-    // Where no line is to be rejected and no fault was counted, the replay is done, or memory ran out.
-    ensures complete { IfSome (S.left input.old) (λ bytes. judge bytes ≡ None → (Rose (S.faults input.old) (S.faults input.new) → ⊥) →
-        (Rose (K.faults out.old) (K.faults out.new) → ⊥) → (result ≡ Ran.Done) ⊎ (result ≡ Ran.Memory)) }
-{
-    ending(run(alloc, input, out))
 }

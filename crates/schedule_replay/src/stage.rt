@@ -2,44 +2,35 @@
 ghost use Rattle.std.specs.Prelude.{◌≡◌, IfOk};
 ghost use Rattle.tree_specs.specs.Machine.View.{begin};
 ghost use Rattle.tree_specs.specs.Texts.Grammar.{input_of};
-ghost use Rattle.tree_specs.specs.Texts.Schedule.{misfit, mode_of};
+ghost use Rattle.tree_specs.specs.Texts.Schedule.{misfit};
 ghost use Rattle.schedule_replay.specs.Hosts.{host_standing};
 ghost use Rattle.schedule_replay.specs.Plays.{Begins};
-ghost use Rattle.schedule_replay.specs.Replays.{Replayed};
 ghost use Rattle.schedule_replay.specs.Starts.{BeginsService, StartsAfter};
 
+use crate::header::header;
 use crate::play::Play;
+use crate::player::Player;
 use crate::stop::Stop;
 use host_core::Host;
-use line_pieces::TakesLines;
 use line_service::Station;
-use schedule_text::read_header;
 use std::alloc::Global;
 use std::mem;
-use tree_specs::{Memory, Mode, Reason};
-
-/// With so many bytes to be written, no more lines are taken before they are.
-const FULL: usize = 65_536;
-
-/// What the first line says of those after it. None where it is no header.
-fn mode(header: &[u8]) -> Option<Mode>
-    ensures { result ≡ mode_of header.now }
-{
-    read_header(header).ok()
-}
+use tree_specs::{Header, Memory, Mode, Reason, Version};
 
 /// A host that runs the lines of a schedule.
-fn begin_pool(alloc: Global) -> Result<Play<Host>, Memory>
-    ensures { IfOk result (λ play. Begins input_of misfit host_standing (begin 1) play) }
+fn begin_pool(alloc: Global, version: Version) -> Result<Play<Host>, Memory>
+    ensures version { IfOk result (λ play. play.version ≡ version) }
+    ensures begins { IfOk result (λ play. Begins (input_of version) misfit host_standing (begin 1) play) }
 {
-    Play::begin(alloc, Host::new(alloc, 1)?)
+    Play::begin(alloc, version, Host::new(alloc, 1)?)
 }
 
 /// A line service that runs them.
-fn begin_service(alloc: Global) -> Result<Play<Station>, Memory>
-    ensures { IfOk result BeginsService }
+fn begin_service(alloc: Global, version: Version) -> Result<Play<Station>, Memory>
+    ensures version { IfOk result (λ play. play.version ≡ version) }
+    ensures begins { IfOk result (BeginsService version) }
 {
-    Play::begin(alloc, Station::new(alloc)?)
+    Play::begin(alloc, version, Station::new(alloc)?)
 }
 
 /// What takes the lines of a schedule.
@@ -54,43 +45,23 @@ pub enum Stage {
 }
 
 /// What runs the lines after this first one.
-fn stage_after(alloc: Global, header: &[u8]) -> Result<Stage, Stop>
-    ensures { StartsAfter header.now result }
+fn stage_after(alloc: Global, line: &[u8]) -> Result<Stage, Stop>
+    ensures { StartsAfter line.now result }
 {
-    match mode(header) {
-        Some(Mode::Pool) => Ok(Stage::Pool(begin_pool(alloc)?)),
-        Some(Mode::Service) => Ok(Stage::Service(begin_service(alloc)?)),
-        None => Err(Stop::Refused {
+    let Some(Header { version, mode }) = header(line) else {
+        return Err(Stop::Refused {
             line: 1,
             reason: Reason::Form,
-        }),
+        });
+    };
+    match mode {
+        Mode::Pool => Ok(Stage::Pool(begin_pool(alloc, version)?)),
+        Mode::Service => Ok(Stage::Service(begin_service(alloc, version)?)),
     }
 }
 
 impl Stage {
-    ghost use Rattle.schedule_replay.specs.Stages.{text_in, IsEmptied, TakesHeader};
-
-    /// What is to be written next.
-    pub fn text(&self) -> &[u8]
-        ensures { result.now ≡ text_in self.now }
-    {
-        match self {
-            Stage::Header(_alloc) => &[],
-            Stage::Pool(play) => &play.text,
-            Stage::Service(play) => &play.text,
-        }
-    }
-
-    /// It was written.
-    pub fn clear_text(&mut self)
-        ensures { IsEmptied self.old self.new }
-    {
-        match self {
-            Stage::Header(_alloc) => {}
-            Stage::Pool(play) => play.text.clear(),
-            Stage::Service(play) => play.text.clear(),
-        }
-    }
+    ghost use Rattle.schedule_replay.specs.Stages.{TakesHeader};
 
     /// The next lines come. What stood here was the first line still to come, which owns nothing.
     fn start(&mut self, next: Stage)
@@ -110,20 +81,30 @@ impl Stage {
     }
 }
 
-impl TakesLines for Stage {
-    type Stop = Stop;
+impl Player for Stage {
+    ghost use Rattle.schedule_replay.specs.Stages.{plays, ready, text_in};
 
-    ghost use Rattle.schedule_replay.specs.Stages.{comes, ready, stops, ends};
+    ghost plays = { plays };
 
-    ghost Found = { Replayed };
-
-    ghost comes = { comes };
+    ghost text_in = { text_in };
 
     ghost ready = { ready };
 
-    ghost stops = { stops };
+    fn text(&self) -> &[u8] {
+        match self {
+            Stage::Header(_alloc) => &[],
+            Stage::Pool(play) => &play.text,
+            Stage::Service(play) => &play.text,
+        }
+    }
 
-    ghost ends = { ends };
+    fn clear_text(&mut self) {
+        match self {
+            Stage::Header(_alloc) => {}
+            Stage::Pool(play) => play.text.clear(),
+            Stage::Service(play) => play.text.clear(),
+        }
+    }
 
     #[inline(always)]
     fn take_line(&mut self, number: u64, line: &[u8]) -> Result<(), Stop> {
@@ -137,11 +118,6 @@ impl TakesLines for Stage {
         }
     }
 
-    #[inline(always)]
-    fn is_full(&self) -> bool {
-        self.text().len() >= FULL
-    }
-
     fn refuse_limit(&mut self, number: u64) -> Stop {
         match self {
             Stage::Header(_alloc) => Stop::Refused {
@@ -151,10 +127,6 @@ impl TakesLines for Stage {
             Stage::Pool(play) => play.refuse_limit(number),
             Stage::Service(play) => play.refuse_limit(number),
         }
-    }
-
-    fn want_memory(&self) -> Stop {
-        Stop::Memory
     }
 
     fn finish(&mut self, number: u64, cut: bool) -> Result<(), Stop> {

@@ -1,4 +1,4 @@
-//! Why a replay ends before its schedule does.
+//! Why a replay ends before its schedule does, or a conversion.
 ghost use Rattle.std.specs.Prelude.{◌≡◌};
 ghost use Rattle.schedule_replay.specs.declared.stop.Stop.TheVariants as errors;
 ghost use Rattle.schedule_replay.specs.Passes.{stop_of_put};
@@ -7,7 +7,7 @@ use outside::PutError;
 use std::alloc::AllocError;
 use tree_specs::{Memory, Reason};
 
-/// Why a replay ends before its schedule does.
+/// Why a replay ends before its schedule does, or a conversion.
 #[derive(Clone, Copy, PartialEq, Eq)]
 pub enum Stop {
     /// A read failed.

@@ -2,3 +2,4 @@ pub mod Fronts
 pub mod Inputs
 pub mod Parts
 pub mod Wants
+pub mod Converting

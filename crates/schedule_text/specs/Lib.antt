@@ -1,2 +1,3 @@
 pub mod Wants
 pub mod Heard
+pub mod Converted

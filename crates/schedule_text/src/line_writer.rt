@@ -1,5 +1,6 @@
 //! Writing an input as its line.
 ghost use Rattle.std.specs.Prelude.{◌≡◌, ◌++◌, ℕ, IsTrue, List, Some};
+ghost use Rattle.tree_specs.specs.declared.schedule.Version.TheVariants.{Two};
 ghost use Rattle.tree_specs.specs.Texts.Grammar.{input_of};
 ghost use Rattle.tree_specs.specs.Words.Ranges.{is_sound, is_sound_call};
 ghost use Rattle.tree_specs.specs.Texts.Text.{call_text, input_text, newline};
@@ -16,18 +17,18 @@ use tree_specs::{Act, Call, Input, Memory};
 /// Appends the line of a call after this front.
 fn write_call_line(front: &[u8], call: &Call, out: &mut Vec<u8>) -> Result<(), Memory>
     requires { IsTrue (is_sound_call call.now) }
-    ensures { Writes out.old.items out.new.items result (front.now ++ call_text call.now ++ newline) }
+    ensures { Writes out.old.items out.new.items result (front.now ++ call_text Two call.now ++ newline) }
 {
     out.extend_from_slice(front)?;
     write_call(call, out)?;
     write_pieces(&[b"\n".as_slice()], out)
 }
 
-/// Appends the one line of an input.
+/// Appends the one line of an input in version 2.
 #[tactic(auto, unfolding(tree_specs::specs::Texts::Text::input_text))]
 fn write_line(input: &Input, out: &mut Vec<u8>) -> Result<(), Memory>
     requires { IsTrue (is_sound input.now) }
-    ensures { Writes out.old.items out.new.items result (input_text input.now) }
+    ensures { Writes out.old.items out.new.items result (input_text Two input.now) }
 {
     match input {
         Input::Call(call) => write_call_line(b"call ", call, out),
@@ -57,13 +58,13 @@ fn the_bytes_of_an_input_are_bytes(input: &Input)
     }
 }
 
-/// Appends the one line of an input, with its LF. When memory runs out, a prefix of it was appended.
+/// Appends the one line of an input in a schedule of version 2, with its LF. When memory runs out, a prefix of it was appended.
 pub fn write_input(input: &Input, out: &mut Vec<u8>) -> Result<(), Memory>
     // Each number is in the range of its field.
     requires { IsTrue (is_sound input.now) }
-    ensures written { Writes out.old.items out.new.items result (input_text input.now) }
+    ensures written { Writes out.old.items out.new.items result (input_text Two input.now) }
     // The line, without its LF, is read back as the same input.
-    ensures read_back { (line : List ℕ) → line ++ newline ≡ input_text input.now → input_of line ≡ Some input.now }
+    ensures read_back { (line : List ℕ) → line ++ newline ≡ input_text Two input.now → input_of Two line ≡ Some input.now }
     // What it carries are bytes, as its type says.
     ensures bytes { IsTrue (input_has_bytes input.now) }
 {

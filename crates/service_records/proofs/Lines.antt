@@ -1,5 +1,5 @@
 -- The line of an input: it has no LF, and it isn't too long for a schedule.
-use Rattle.std.proofs.Common.{◌≡◌, ◌≤◌, ◌<◌, ℕ, zero, suc, ◌+◌, ◌*◌, ◌^◌, ◌/◌, ◌%◌, true, leb, ltb, ◌&&◌, List, [], ◌∷◌, ◌++◌, length, slice_index, refl, codes, arith, length-append}
+use Rattle.std.proofs.Common.{◌≡◌, ◌≤◌, ◌<◌, ℕ, zero, suc, ◌+◌, ◌*◌, ◌^◌, ◌/◌, ◌%◌, true, leb, ltb, ◌&&◌, List, [], ◌∷◌, ◌++◌, length, slice_index, refl, codes, ◌∙◌, arith, length-append}
 use Rattle.std.specs.Prelude.{flat_map}
 use Rattle.std.specs.Char.{is_ascii_digit}
 use Rattle.std.specs.Fmt.{decimal}
@@ -17,6 +17,7 @@ use Rattle.tree_specs.specs.declared.call.Call.TheVariants.{Free}
 use Rattle.tree_specs.specs.declared.question.Act.TheVariants as acts
 use Rattle.tree_specs.specs.declared.question.Input.{Input}
 use Rattle.tree_specs.specs.declared.question.Input.TheVariants as inputs
+use Rattle.tree_specs.specs.declared.schedule.Version.TheVariants.{Two}
 use Rattle.tree_specs.specs.declared.wants.Want.{Want}
 use Rattle.tree_specs.specs.Words.Names.{is_name, is_graphic}
 use Rattle.tree_specs.specs.Words.Objects.{owner_number}
@@ -25,10 +26,11 @@ use Rattle.tree_specs.specs.Words.Ranges.{is_number, is_in, is_sound_owner, is_s
 use Rattle.tree_specs.specs.Words.Wants.{has_flags, is_want, rises}
 use Rattle.tree_specs.specs.Calls.Spelling.{Numeral, Field, spelling}
 use Rattle.tree_specs.specs.Calls.Spelling.Numeral.{Number}
-use Rattle.tree_specs.specs.Calls.Spelling.Field.{AnOwner, AnObject, ANumeral, AName, SomeBytes}
+use Rattle.tree_specs.specs.Calls.Spelling.Field.{AnOwner, AnObject, ANumeral, AName, SomeBytes, TheContext}
 use Rattle.tree_specs.specs.Texts.Lines.{line_limit}
 use Rattle.tree_specs.specs.Texts.Text.{field_text, call_text, want_text, wants_text}
 use Rattle.text_forms.proofs.Bools.{and_true, list_all-weaker}
+use Rattle.text_forms.proofs.Calls.{sound_fields}
 use Rattle.text_forms.proofs.Numerals.{decimal_digits}
 use Rattle.line_pieces.specs.Cuts.{is_plain, has_no_lf}
 use Rattle.line_pieces.proofs.LineLaws.{plain_append}
@@ -88,12 +90,12 @@ octets-part bs h = record {
 graphic-plain : (b : ℕ) → is_graphic b ≡ true → is_plain b ≡ true
 graphic-plain b h = grind (arith, nat_tests)
 
-name-part : (name : List ℕ) → is_name name ≡ true → IsPart 255 name
+name-part : (name : List ℕ) → is_name name ≡ true → IsPart 1023 name
 name-part name h =
-    let ends = and_true (list_all is_graphic name && leb 1 (length name)) (leb (length name) 255) h in
+    let ends = and_true (list_all is_graphic name && leb 1 (length name)) (leb (length name) 1023) h in
     record {
       plain = list_all-weaker is_graphic is_plain graphic-plain name (and_true (list_all is_graphic name) (leb 1 (length name)) ends.0).0;
-      short = leb-true (length name) 255 ends.1;
+      short = leb-true (length name) 1023 ends.1;
     }
 
 in-range : (kind : Numeral) (n : ℕ) → is_in kind n ≡ true → n < 2 ^ 64
@@ -107,14 +109,15 @@ owner-small (Of x) h = ltb-true x.0 (2 ^ 64) (and_true (ltb 0 x.0) (is_number x.
 -- so many bytes at most has the text of a field
 abbrev most_of : Field → ℕ
 most_of (SomeBytes bytes) = 131072
-most_of f = 255
+most_of f = 1023
 
-field-part : (f : Field) → is_sound_field f ≡ true → IsPart (most_of f) (field_text f)
-field-part (AnOwner o) h = longer 20 255 (decimal (owner_number o)) (omega arith) (number-part (owner_number o) (owner-small o h))
-field-part (AnObject x) h = longer 20 255 (decimal x.0) (omega arith) (number-part x.0 (ltb-true x.0 (2 ^ 64) h))
-field-part (ANumeral kind n) h = longer 20 255 (decimal n) (omega arith) (number-part n (in-range kind n h))
+field-part : (f : Field) → is_sound_field Two f ≡ true → IsPart (most_of f) (field_text f)
+field-part (AnOwner o) h = longer 20 1023 (decimal (owner_number o)) (omega arith) (number-part (owner_number o) (owner-small o h))
+field-part (AnObject x) h = longer 20 1023 (decimal x.0) (omega arith) (number-part x.0 (ltb-true x.0 (2 ^ 64) h))
+field-part (ANumeral kind n) h = longer 20 1023 (decimal n) (omega arith) (number-part n (in-range kind n h))
 field-part (AName name) h = name-part name h
 field-part (SomeBytes bytes) h = octets-part bytes h
+field-part TheContext h = longer 20 1023 (decimal 0) (omega arith) (number-part 0 (omega arith))
 
 -- the same of fields, each with a space before it
 abbrev most_of_all : List Field → ℕ
@@ -124,21 +127,21 @@ most_of_all (f ∷ fs) = 1 + most_of f + most_of_all fs
 abbrev fields_text : List Field → List ℕ
 fields_text fs = flat_map (λ f. codes " " ++ field_text f) fs
 
-sound-parts : (f : Field) (fs : List Field) → all_sound (f ∷ fs) ≡ true → (is_sound_field f ≡ true) × (all_sound fs ≡ true)
+sound-parts : (f : Field) (fs : List Field) → all_sound Two (f ∷ fs) ≡ true → (is_sound_field Two f ≡ true) × (all_sound Two fs ≡ true)
 sound-parts f [] h = (h, refl)
-sound-parts f (g ∷ fs) h = and_true (is_sound_field f) (all_sound (g ∷ fs)) h
+sound-parts f (g ∷ fs) h = and_true (is_sound_field Two f) (all_sound Two (g ∷ fs)) h
 
 space : IsPart 1 (codes " ")
 space = record { plain = refl; short = omega arith }
 
-fields-part : (fs : List Field) → all_sound fs ≡ true → IsPart (most_of_all fs) (fields_text fs)
+fields-part : (fs : List Field) → all_sound Two fs ≡ true → IsPart (most_of_all fs) (fields_text fs)
 fields-part [] h = record { plain = refl; short = omega arith }
 fields-part (f ∷ fs) h =
     let s = sound-parts f fs h in
     together (1 + most_of f) (most_of_all fs) (codes " " ++ field_text f) (fields_text fs)
     (together 1 (most_of f) (codes " ") (field_text f) space (field-part f s.0)) (fields-part fs s.1)
 
-verb-plain : (c : Call) → has_no_lf (spelling c).verb ≡ true
+verb-plain : (c : Call) → has_no_lf (spelling Two c).verb ≡ true
 verb-plain (Free x) = refl
 verb-plain _ = refl
 
@@ -146,17 +149,17 @@ verb-plain _ = refl
 abbrev most_of_call : ℕ
 most_of_call = 140000
 
-call-short : (c : Call) → leb (length (spelling c).verb + most_of_all (spelling c).fields) most_of_call ≡ true
+call-short : (c : Call) → leb (length (spelling Two c).verb + most_of_all (spelling Two c).fields) most_of_call ≡ true
 call-short (Free x) = refl
 call-short _ = refl
 
-call-part : (c : Call) → is_sound_call c ≡ true → IsPart most_of_call (call_text c)
+call-part : (c : Call) → is_sound_call c ≡ true → IsPart most_of_call (call_text Two c)
 unfolding call_text
 call-part c h =
-    let verb : List ℕ = (spelling c).verb in
-    let most : ℕ = most_of_all (spelling c).fields in
-    longer (length verb + most) most_of_call (verb ++ fields_text (spelling c).fields) (leb-true (length verb + most) most_of_call (call-short c))
-    (together (length verb) most verb (fields_text (spelling c).fields) (record { plain = verb-plain c; short = omega arith }) (fields-part (spelling c).fields h))
+    let verb : List ℕ = (spelling Two c).verb in
+    let most : ℕ = most_of_all (spelling Two c).fields in
+    longer (length verb + most) most_of_call (verb ++ fields_text (spelling Two c).fields) (leb-true (length verb + most) most_of_call (call-short c))
+    (together (length verb) most verb (fields_text (spelling Two c).fields) (record { plain = verb-plain c; short = omega arith }) (fields-part (spelling Two c).fields (sound_fields Two Two c ∙ h)))
 
 -- ---- descriptors that are ready
 
@@ -171,7 +174,7 @@ want-part w h =
     (record { plain = refl; short = omega arith }))
     (decimal-part 1 w.flags (omega arith) (omega (arith, few)) (omega (arith, few)))
 
-wants-part : (ws : List Want) → list_all is_want ws ≡ true → IsPart (13 * length ws) (wants_text ws)
+pub wants-part : (ws : List Want) → list_all is_want ws ≡ true → IsPart (13 * length ws) (wants_text ws)
 wants-part [] h = record { plain = refl; short = omega arith }
 wants-part (w ∷ ws) h =
     let both = and_true (is_want w) (list_all is_want ws) h in
@@ -203,9 +206,9 @@ all-have (i ∷ is) ranges short =
     let b = and_true (is_sound i) (input_has_bytes i) r.0 in
     (record { sound = b.0; bytes = b.1; short = s.0 }, all-have is r.1 s.1)
 
-pub line-part : (i : Input) → HasLine i → IsPart line_limit (line_of i)
-line-part (inputs.Call c) h = behind most_of_call (codes "call ") (call_text c) refl (omega arith) (omega arith) (call-part c h.sound)
-line-part (inputs.Act (acts.Do c)) h = behind most_of_call (codes "act ") (call_text c) refl (omega arith) (omega arith) (call-part c h.sound)
+pub line-part : (i : Input) → HasLine i → IsPart line_limit (line_of Two i)
+line-part (inputs.Call c) h = behind most_of_call (codes "call ") (call_text Two c) refl (omega arith) (omega arith) (call-part c h.sound)
+line-part (inputs.Act (acts.Do c)) h = behind most_of_call (codes "act ") (call_text Two c) refl (omega arith) (omega arith) (call-part c h.sound)
 line-part (inputs.Act (acts.Ret value)) h = behind 20 (codes "ret ") (decimal value) refl (omega arith) (omega arith) (number-part value (omega (arith, ltb-true value (2 ^ 32) h.sound)))
 line-part (inputs.Clock now) h = behind 20 (codes "clock ") (decimal now) refl (omega arith) (omega arith) (number-part now (omega (arith, leb-true now (2 ^ 62) h.sound)))
 line-part (inputs.Ready wants) h =
@@ -215,3 +218,14 @@ line-part (inputs.Took fd) h = behind 20 (codes "took ") (decimal fd) refl (omeg
 line-part (inputs.Got bytes) h = behind 131072 (codes "got ") (encode_lower bytes) refl (omega arith) (omega arith) (octets-part bytes h.sound)
 line-part (inputs.Wrote n) h = behind 20 (codes "wrote ") (decimal n) refl (omega arith) (omega arith) (number-part n (omega (arith, leb-true n 65536 (and_true (leb 1 n) (leb n 65536) h.sound).1)))
 line-part _ h = record { plain = refl; short = omega arith }
+
+-- it has no LF, however many descriptors it names
+pub line-plain : (i : Input) → is_sound i ≡ true → input_has_bytes i ≡ true → has_no_lf (line_of Two i) ≡ true
+line-plain (inputs.Ready wants) sound has = plain_append (codes "ready") (wants_text wants) refl (wants-part wants (and_true (list_all is_want wants) (rises wants) sound).0).plain
+line-plain (inputs.Call c) sound has = (line-part (inputs.Call c) (record { sound = sound; bytes = has; short = refl })).plain
+line-plain (inputs.Act act) sound has = (line-part (inputs.Act act) (record { sound = sound; bytes = has; short = refl })).plain
+line-plain (inputs.Clock now) sound has = (line-part (inputs.Clock now) (record { sound = sound; bytes = has; short = refl })).plain
+line-plain (inputs.Took fd) sound has = (line-part (inputs.Took fd) (record { sound = sound; bytes = has; short = refl })).plain
+line-plain (inputs.Got bytes) sound has = (line-part (inputs.Got bytes) (record { sound = sound; bytes = has; short = refl })).plain
+line-plain (inputs.Wrote n) sound has = (line-part (inputs.Wrote n) (record { sound = sound; bytes = has; short = refl })).plain
+line-plain _ sound has = refl

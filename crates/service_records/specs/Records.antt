@@ -2,18 +2,21 @@
 use Rattle.std.specs.Prelude.{◌≡◌, ℕ, ◌&&◌, Bool, true, nat_le, List, [], ◌∷◌, ◌++◌, length, flat_map, None, ⊤}
 use Rattle.tree_specs.specs.declared.question.Input.{Input}
 use Rattle.tree_specs.specs.declared.question.Input.TheVariants as input
+use Rattle.tree_specs.specs.declared.schedule.Mode.TheVariants.{Service}
+use Rattle.tree_specs.specs.declared.schedule.Version.TheVariants.{Two}
 use Rattle.tree_specs.specs.Texts.Runners.{Course, once_given, unless_stray}
-use Rattle.tree_specs.specs.Texts.Schedule.{misfit, service_header}
+use Rattle.tree_specs.specs.Texts.Schedule.{misfit, header_text}
 use Rattle.tree_specs.specs.Texts.Text.{input_text, newline}
 use Rattle.tree_specs.specs.Words.Ranges.{is_sound}
 use Rattle.schedule_text.specs.Heard.{input_has_bytes}
 use Rattle.service_rules.specs.Schedules.{judge, inputs_of}
 
+-- it is written in the second version
 abbrev pub record_header : List ℕ
-record_header = service_header ++ newline
+record_header = header_text Two Service ++ newline
 
 abbrev pub record_text : List Input → List ℕ
-record_text is = record_header ++ flat_map input_text is
+record_text is = record_header ++ flat_map (input_text Two) is
 
 -- each of these answers fits what is asked when it comes
 abbrev pub AllFit : Course Input → List Input → Type 0

@@ -21,6 +21,7 @@ use Rattle.service_rules.specs.declared.task.Task.TheVariants as task
 use Rattle.service_rules.specs.declared.task.Triggering.{Triggering}
 use Rattle.service_rules.specs.declared.task.Triggering.TheVariants as triggering
 use Rattle.service_rules.specs.Knowledge.{Connection, Knowledge, connection_of, with_connection}
+use Rattle.service_rules.specs.Lines.{IsServed}
 use Rattle.service_rules.specs.Tasks.{after_reading, serving_call, write_call, fulfilling_call, notifying_call, triggering_call}
 use Rattle.service_rules.specs.Routines.{Next, Progress, does, doing, serves, serving_on, goes_on, notifies, order_call, fulfilling_for, progress_of, progressed}
 use Rattle.service_rules.specs.Routines.Next.{Does, Returns}
@@ -28,7 +29,7 @@ use Rattle.service_rules.specs.Sent.{Ledger}
 use Rattle.service_rules.proofs.Entries.{found-put}
 use Rattle.service_rules.proofs.Owing.{IsKnown, Goes, whole, Keeps, Before, IsCallOf, IsNoWrite, Below}
 use Rattle.service_rules.proofs.Growing.{speaks, Appends, appends-then, appends-put, appends-becomes, became-goes, became-keeps, free-still, session-still}
-use Rattle.service_rules.proofs.Served.{IsServed, IfWanted, progress-served, within-no-write}
+use Rattle.service_rules.proofs.Served.{IfWanted, progress-served, within-no-write}
 
 -- after an answer nothing is on its way
 pub record Settled (d : Knowledge) (l : Ledger) (next : ℕ) (fs : List Frame) (e : Knowledge) : Type 0 where

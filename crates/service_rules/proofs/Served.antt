@@ -6,6 +6,7 @@ use Rattle.tree_specs.specs.declared.object.Obj.{Obj}
 use Rattle.tree_specs.specs.declared.call.Call.{Call}
 use Rattle.tree_specs.specs.declared.call.Call.TheVariants as call
 use Rattle.tree_specs.specs.Tree.Pool.{Pool}
+use Rattle.tree_specs.specs.declared.schedule.Version.TheVariants.{One}
 use Rattle.tree_specs.specs.Texts.Grammar.{◌>>=◌, ◌or◌, words, numeral_of, call_of_words}
 use Rattle.tree_specs.specs.Calls.Spelling.Numeral.{Number32}
 use Rattle.tree_specs.proofs.Tree.Numbered.{by_test}
@@ -13,7 +14,7 @@ use Rattle.service_rules.specs.declared.order.Order.{Order}
 use Rattle.service_rules.specs.declared.order.Order.TheVariants as order
 use Rattle.service_rules.specs.declared.task.Fulfilling.{Fulfilling}
 use Rattle.service_rules.specs.declared.task.Fulfilling.TheVariants as fulfilling
-use Rattle.service_rules.specs.Lines.{Front, front_of, after_newline, line_of, is_served, waiting, micros_of, acting, order_of, line_of_words}
+use Rattle.service_rules.specs.Lines.{Front, front_of, after_newline, line_of, is_served, IsServed, waiting, micros_of, acting, order_of, line_of_words}
 use Rattle.service_rules.specs.Lines.Front.{Whole, Long, Part}
 use Rattle.service_rules.specs.Knowledge.{Connection}
 use Rattle.service_rules.specs.Naming.{stranger_in, within}
@@ -21,10 +22,6 @@ use Rattle.service_rules.specs.Tasks.{fulfilling_call}
 use Rattle.service_rules.specs.Routines.{Verdict, unless_stranger, judged, verdict_of, through, after_front, after_verdict, after_drop, progress_of, order_call}
 use Rattle.service_rules.specs.Routines.Verdict.{Answers, Wants}
 use Rattle.service_rules.proofs.Owing.{IsNoWrite}
-
-abbrev pub IsServed : Order → Type 0
-IsServed (order.Call c) = is_served c ≡ true
-IsServed o = Unit {0}
 
 abbrev pub IfServed : Option Order → Type 0
 IfServed None = Unit {0}
@@ -53,7 +50,7 @@ waiting-served verb make h (first ∷ micros ∷ []) = by_test (bytes_eq first v
 waiting-served verb make h _ = tt
 
 acting-served : (ws : List (List ℕ)) → IfServed (acting ws)
-acting-served ws = each (call_of_words ws)
+acting-served ws = each (call_of_words One ws)
   where
     each : (o : Option Call) → IfServed (o >>= (λ c. if is_served c then Some (order.Call c) else None))
     each None = tt
@@ -62,9 +59,9 @@ acting-served ws = each (call_of_words ws)
 order-served : (ws : List (List ℕ)) → IfServed (order_of ws)
 order-served ws = or-served _ _ (or-served _ _ (waiting-served (codes "sleep") order.Sleep (λ n. tt) ws) (waiting-served (codes "job") order.Job (λ n. tt) ws)) (acting-served ws)
 
-line-served : (ws : List (List ℕ)) → IfWanted (line_of_words ws)
-line-served [] = tt
-line-served (first ∷ more) = each (numeral_of Number32 first) (order_of more) (order-served more)
+pub words-served : (ws : List (List ℕ)) → IfWanted (line_of_words ws)
+words-served [] = tt
+words-served (first ∷ more) = each (numeral_of Number32 first) (order_of more) (order-served more)
   where
     each : (a : Option ℕ) (b : Option Order) → IfServed b → IfWanted (a >>= (λ tag. b >>= (λ o. Some (tag, o))))
     each None b h = tt
@@ -73,7 +70,7 @@ line-served (first ∷ more) = each (numeral_of Number32 first) (order_of more) 
 
 verdict-served : (p : Pool) (s : Obj) (text : List ℕ) → Judges (verdict_of p s text)
 unfolding verdict_of line_of
-verdict-served p s text = each (line_of_words (words text)) (line-served (words text))
+verdict-served p s text = each (line_of_words (words text)) (words-served (words text))
   where
     named : (tag : ℕ) (c : Call) (o : Option Obj) → is_served c ≡ true → Judges (unless_stranger tag c o)
     named tag c None h = h

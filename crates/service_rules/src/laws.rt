@@ -8,9 +8,10 @@ ghost use Rattle.tree_specs.specs.Promises.Grounded.{Grounded};
 ghost use Rattle.tree_specs.specs.Rules.Items.{Item, IsQuestion};
 ghost use Rattle.tree_specs.specs.Rules.Story.{story};
 ghost use Rattle.tree_specs.specs.declared.schedule.Mode.TheVariants.{Pool};
+ghost use Rattle.tree_specs.specs.declared.schedule.Version.{Version as VersionData};
 ghost use Rattle.tree_specs.specs.Texts.Lines.{Line};
 ghost use Rattle.tree_specs.specs.Texts.Runners.{judged_lines, transcript_lines};
-ghost use Rattle.tree_specs.specs.Texts.Schedule.{mode_of, pools};
+ghost use Rattle.tree_specs.specs.Texts.Schedule.{header_of, pools, says};
 ghost use Rattle.service_rules.specs.Knowledge.{nothing_known};
 ghost use Rattle.service_rules.specs.Fair.{FairBytesGoOut};
 ghost use Rattle.service_rules.specs.Fitting.{FittingBytesGoOut};
@@ -40,8 +41,8 @@ pub fn the_story_behind_is_grounded()
 /// A schedule whose first line is a pool's header is judged as it is where no service runs schedules, and gives the same
 /// transcript.
 pub fn pool_schedules_are_judged_as_before()
-    ensures judged { (first : Line) (rest : List Line) → mode_of first.text ≡ Some Pool → judged_lines runner_of (first ∷ rest) ≡ judged_lines pools (first ∷ rest) }
-    ensures transcript { (first : Line) (rest : List Line) → mode_of first.text ≡ Some Pool → transcript_lines runner_of (first ∷ rest) ≡ transcript_lines pools (first ∷ rest) }
+    ensures judged { (v : VersionData) (first : Line) (rest : List Line) → header_of first.text ≡ Some (says v Pool) → judged_lines runner_of (first ∷ rest) ≡ judged_lines pools (first ∷ rest) }
+    ensures transcript { (v : VersionData) (first : Line) (rest : List Line) → header_of first.text ≡ Some (says v Pool) → transcript_lines runner_of (first ∷ rest) ≡ transcript_lines pools (first ∷ rest) }
 {}
 
 /// Where the answers of the outside are fair, bytes go out on each connection as they were said: what its descriptor has

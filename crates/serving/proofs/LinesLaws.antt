@@ -4,6 +4,7 @@ use Rattle.std.specs.Option.{option_map}
 use Rattle.machine_driver.specs.Driver.{items_or_none}
 use Rattle.outside.proofs.TellingLaws.{tells_same}
 use Rattle.std.proofs.KnownBytes.{Appends-nil}
+use Rattle.tree_specs.specs.declared.schedule.Version.TheVariants.{Two}
 use Rattle.tree_specs.specs.declared.question.Input.{Input}
 use Rattle.tree_specs.specs.Rules.Items.{Item}
 use Rattle.tree_specs.specs.Texts.Lines.{lines_limit}
@@ -37,8 +38,8 @@ items-shown is =
     each None = refl
     each (Some shown) = refl
 
-answers-fit : (is : List Input) → AllFit (line_course service_course) is → AllFit service_runner.course is
-answers-fit is fit = fits_alike (line_course service_course) service_runner.course (λ js. ap open_question (items-shown js)) (λ js. refl) is fit
+answers-fit : (is : List Input) → AllFit (line_course service_course) is → AllFit (service_runner Two).course is
+answers-fit is fit = fits_alike (line_course service_course) (service_runner Two).course (λ js. ap open_question (items-shown js)) (λ js. refl) is fit
 
 serves_lines : (path : List ℕ) (answers : ℕ) (start rest : Course) (before after : Ends) → IsBegun start → answers < lines_limit
     → IsServed path answers (with_course start before) (with_course rest after) → ServesLines path answers before after

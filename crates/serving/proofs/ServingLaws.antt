@@ -5,6 +5,7 @@ use Rattle.std.proofs.lemmas.List.{append-nil, append_assoc}
 use Rattle.std.proofs.lemmas.List.Folds.{list_all-append}
 use Rattle.std.specs.Io.KnownBytes.{Appends}
 use Rattle.std.proofs.KnownBytes.{Appends-trans, Appends-nil}
+use Rattle.tree_specs.specs.declared.schedule.Version.TheVariants.{Two}
 use Rattle.tree_specs.specs.declared.event.Event.{Event}
 use Rattle.tree_specs.specs.declared.event.Event.TheVariants as events
 use Rattle.tree_specs.specs.declared.moment.Moment.{Moment}
@@ -137,7 +138,7 @@ serves_then m n a b c x y = record {
   link = rw (flat-both link_part x.done y.done) (tells_then a.link b.link c.link (flat_map link_part x.done) (flat_map link_part y.done) x.link y.link);
   clock = rw (flat-both clock_part x.done y.done) (tells_then a.clock b.clock c.clock (flat_map clock_part x.done) (flat_map clock_part y.done) x.clock y.clock);
   routines = rw (flat-both routine_part x.done y.done) (tells_then a.routines b.routines c.routines (flat_map routine_part x.done) (flat_map routine_part y.done) x.routines y.routines);
-  out = rw (flat-both input_text x.given y.given) (Appends-trans a.out b.out c.out (flat_map input_text x.given) (flat_map input_text y.given) x.out y.out);
+  out = rw (flat-both (input_text Two) x.given y.given) (Appends-trans a.out b.out c.out (flat_map (input_text Two) x.given) (flat_map (input_text Two) y.given) x.out y.out);
 }
 
 -- events between two answers
@@ -161,7 +162,7 @@ serves_shown before after s c r o = record {
 pub serves_one : (before after : Scene) (question : Option Ask) (q : Ask) (wanted : List Want) (i : Input) → question ≡ Some q →
     Asks question wanted before.course → Takes question wanted i before.course after.course → Suits q i → has_ranges i ≡ true →
     Tells before.link after.link (link_answer q wanted i) → Tells before.clock after.clock (clock_answer q i) → Tells before.routines after.routines (routine_answer q i) →
-    Appends before.out after.out (input_text i) → Serves 1 before after
+    Appends before.out after.out (input_text Two i) → Serves 1 before after
 serves_one before after question q wanted i asked asks takes suits ranges l c r o = record {
   given = i ∷ [];
   done = Answered q wanted i ∷ [];
@@ -176,7 +177,7 @@ serves_one before after question q wanted i asked asks takes suits ranges l c r 
   link = rw (append-nil (link_answer q wanted i)) l;
   clock = rw (append-nil (clock_answer q i)) c;
   routines = rw (append-nil (routine_answer q i)) r;
-  out = rw (append-nil (input_text i)) o;
+  out = rw (append-nil (input_text Two i)) o;
 }
 
 -- one answer more, and the events behind it
@@ -219,5 +220,5 @@ served_whole path answers before begun after question wanted e l c r o s a =
       link = rw t.2 (tells_then before.link begun.link after.link (Listen path ends.Done ∷ []) (flat_map link_part s.done) l s.link);
       clock = rw t.2 (subst (λ (t : Option (List ℕ)). Tells t after.clock (flat_map clock_part s.done)) c s.clock);
       routines = rw t.2 (subst (λ (t : Option (List (Moment × Act))). Tells t after.routines (flat_map routine_part s.done)) r s.routines);
-      out = Appends-trans before.out begun.out after.out record_header (flat_map input_text s.given) o s.out;
+      out = Appends-trans before.out begun.out after.out record_header (flat_map (input_text Two) s.given) o s.out;
     }

@@ -4,6 +4,7 @@ use Rattle.std.specs.Prelude.{flat_map}
 use Rattle.std.proofs.lemmas.List.{append_assoc}
 use Rattle.std.specs.Io.KnownBytes.{Appends}
 use Rattle.std.proofs.KnownBytes.{Appends-trans, Appends-nil}
+use Rattle.tree_specs.specs.declared.schedule.Version.TheVariants.{Two}
 use Rattle.tree_specs.specs.declared.question.Ask.{Ask}
 use Rattle.tree_specs.specs.declared.question.Ask.TheVariants as ask
 use Rattle.tree_specs.specs.declared.question.Input.{Input}
@@ -79,7 +80,7 @@ stops_asking why q wanted before after open_now same l c r o = each why q l open
 pub stops_hearing : (why : Stop) (q : Ask) (wanted : List Want) (i : Input) (before after : Scene) → IsOpen q wanted before.course → after.course ≡ before.course →
     why ≢ stops.Link → Suits q i →
     Tells before.link after.link (link_answer q wanted i) → Tells before.clock after.clock (clock_answer q i) → Tells before.routines after.routines (routine_answer q i) →
-    (n : ℕ) → Appends before.out after.out (take n (input_text i)) → Stops why 0 before after
+    (n : ℕ) → Appends before.out after.out (take n (input_text Two i)) → Stops why 0 before after
 stops_hearing why q wanted i before after open_now same w s l c r n o = stops_at (Heard q wanted i) why before after same (open_now, s) w l c r n o
 
 both : {A B : Type 0} (f : A → List B) (xs ys : List A) (zs : List B) → flat_map f (xs ++ ys) ++ zs ≡ flat_map f xs ++ (flat_map f ys ++ zs)
@@ -105,7 +106,7 @@ stops_later why m n most a b c few x y = record {
   clock = rw (both clock_part x.done y.done (begun_clock y.begun)) (tells_then a.clock b.clock c.clock (flat_map clock_part x.done) (flat_map clock_part y.done ++ begun_clock y.begun) x.clock y.clock);
   routines = rw (both routine_part x.done y.done (begun_routines y.begun)) (tells_then a.routines b.routines c.routines (flat_map routine_part x.done) (flat_map routine_part y.done ++ begun_routines y.begun) x.routines y.routines);
   part = y.part;
-  out = rw (both input_text x.given y.given (take y.part (begun_line y.begun))) (Appends-trans a.out b.out c.out (flat_map input_text x.given) (flat_map input_text y.given ++ take y.part (begun_line y.begun)) x.out y.out);
+  out = rw (both (input_text Two) x.given y.given (take y.part (begun_line y.begun))) (Appends-trans a.out b.out c.out (flat_map (input_text Two) x.given) (flat_map (input_text Two) y.given ++ take y.part (begun_line y.begun)) x.out y.out);
 }
 
 -- there is no memory for an answer

@@ -3,6 +3,7 @@ use Rattle.std.specs.Prelude.{◌≡◌, ℕ, Bool, true, List, [], ◌++◌, le
 use Rattle.std.specs.List.{list_all}
 use Rattle.std.specs.Io.KnownBytes.{Appends}
 use Rattle.machine_driver.specs.Driver.{with_front}
+use Rattle.tree_specs.specs.declared.schedule.Version.TheVariants.{Two}
 use Rattle.tree_specs.specs.declared.event.Event.{Event}
 use Rattle.tree_specs.specs.declared.event.Event.TheVariants as events
 use Rattle.tree_specs.specs.declared.moment.Moment.{Moment}
@@ -57,7 +58,7 @@ pub record Serves (count : ℕ) (before after : Scene) : Type 0 where
   pub link : Tells before.link after.link (flat_map link_part done)
   pub clock : Tells before.clock after.clock (flat_map clock_part done)
   pub routines : Tells before.routines after.routines (flat_map routine_part done)
-  pub out : Appends before.out after.out (flat_map input_text given)
+  pub out : Appends before.out after.out (flat_map (input_text Two) given)
 
 -- events alone were told
 pub record Shows (before after : Course) (told all : Option (List LinkCall)) : Type 0 where

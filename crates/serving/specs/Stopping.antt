@@ -1,6 +1,7 @@
 -- What stands where serving stops: the answers that were given, and the exchange that was begun after them.
 use Rattle.std.specs.Prelude.{◌≡◌, ◌≢◌, ℕ, ◌≤◌, List, [], ◌∷◌, ◌++◌, length, take, flat_map, Option, Some, None, ⊤}
 use Rattle.std.specs.Io.KnownBytes.{Appends}
+use Rattle.tree_specs.specs.declared.schedule.Version.TheVariants.{Two}
 use Rattle.tree_specs.specs.declared.moment.Moment.{Moment}
 use Rattle.tree_specs.specs.declared.question.Ask.{Ask}
 use Rattle.tree_specs.specs.declared.question.Ask.TheVariants as ask
@@ -80,7 +81,7 @@ abbrev pub begun_line : Begun → List ℕ
 begun_line Nothing = []
 begun_line (FailedWait wanted limit) = []
 begun_line (Forgotten q wanted i) = []
-begun_line (Heard q wanted i) = input_text i
+begun_line (Heard q wanted i) = input_text Two i
 
 -- this question is open where no answer comes, and these are watched
 abbrev pub IsOpen : Ask → List Want → Course → Type 0
@@ -117,7 +118,7 @@ pub record Stops (why : Stop) (answers : ℕ) (before after : Scene) : Type 0 wh
   pub clock : Tells before.clock after.clock (flat_map clock_part done ++ begun_clock begun)
   pub routines : Tells before.routines after.routines (flat_map routine_part done ++ begun_routines begun)
   pub part : ℕ
-  pub out : Appends before.out after.out (flat_map input_text given ++ take part (begun_line begun))
+  pub out : Appends before.out after.out (flat_map (input_text Two) given ++ take part (begun_line begun))
 
 -- ---- a whole run
 

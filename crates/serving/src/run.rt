@@ -64,7 +64,7 @@ pub fn serve<M: Machine, L: Link, C: Clock, R: Routines, K: Sink>(
     ensures write_cause { Counts (K.faults out.old) (K.faults out.new) (result ≡ Err Stop.Write) }
 {
     listen(link, path)?;
-    put_header(out)?;
+    put_header(alloc, out)?;
     serve_answers(alloc, answers, machine, link, clock, routines, out)?;
     Ok(())
 }

@@ -137,7 +137,7 @@ fn a_doorman_is_served_and_put_on_record(rt: HostRuntime) -> Result<(), Fail> {
     assert_eq!(rt; serves_a_doorman(rt.alloc(), &mut link, &mut out)?, Ok(()));
     assert_eq!(rt;
         out.held(),
-        b"tv schedule 1 service\nready 0:1\ntook 7\nready\nagain\n".as_slice()
+        b"tv schedule 2 service\nready 0:1\ntook 7\nready\nagain\n".as_slice()
     );
     Ok(())
 }
@@ -155,7 +155,7 @@ fn a_failed_wait_leaves_the_answers_before_it(rt: HostRuntime) -> Result<(), Fai
     );
     assert_eq!(rt;
         out.held(),
-        b"tv schedule 1 service\nready 0:1\ntook 7\n".as_slice()
+        b"tv schedule 2 service\nready 0:1\ntook 7\n".as_slice()
     );
     Ok(())
 }
@@ -173,7 +173,7 @@ fn a_failed_write_leaves_a_part_of_a_line(rt: HostRuntime) -> Result<(), Fail> {
     );
     assert_eq!(rt;
         out.held(),
-        b"tv schedule 1 service\nready 0:1\ntook ".as_slice()
+        b"tv schedule 2 service\nready 0:1\ntook ".as_slice()
     );
     Ok(())
 }

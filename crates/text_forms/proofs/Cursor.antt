@@ -3,6 +3,7 @@ use Rattle.std.proofs.Common.{◌≡◌, ℕ, Bool, true, false, eqb, cond, ◌&
 use Rattle.std.specs.Char.{is_ascii_digit}
 use Rattle.std.specs.List.{onto_first}
 use Rattle.std.specs.Str.{all_ascii_digits}
+use Rattle.tree_specs.specs.declared.schedule.Version.{Version}
 use Rattle.tree_specs.specs.Texts.Grammar.{◌>>=◌, is_short, number_of, name_of, octets_of, words, ◌leaving◌, field, last_field}
 use Rattle.text_forms.specs.declared.form.FormFault.{FormFault}
 use Rattle.text_forms.specs.declared.form.FormFault.TheVariants.{NoForm, Memory}
@@ -113,7 +114,7 @@ unfolding number_at
 number_is text = sym (ap number_of (digits-and-rest text)) ∙ number_after (digits_at text) (drop (digit_count text) text) (ends_otherwise text)
 
 -- the last field is read where all that is left is its spelling
-last_is : {A : Type 0} {read : List ℕ → Option A} {spell : A → List ℕ} {is_sound : A → Bool} (field : IsField read spell is_sound) (text : List ℕ) → last_field read (words text) ≡ (read text leaving [])
+pub last_is : {A : Type 0} {read : List ℕ → Option A} {spell : A → List ℕ} {is_sound : A → Bool} (field : IsField read spell is_sound) (text : List ℕ) → last_field read (words text) ≡ (read text leaving [])
 last_is {A} {read} {spell} {is_sound} field text = by_cases (read text) refl
   where
     one_word : (ws : List (List ℕ)) → joined ws ≡ text → read text ≡ None → last_field read ws ≡ None
@@ -133,8 +134,8 @@ last_taken field (Ok x) text h = last_is field text ∙ rw h refl
 last_taken field (Err NoForm) text h = last_is field text ∙ rw h refl
 last_taken field (Err Memory) text h = tt
 
-pub name_taken : (r : Result (List ℕ) FormFault) (text : List ℕ) → Reads r (name_of text) → Takes r (last_field name_of (words text)) []
-name_taken r text h = last_taken name_field r text h
+pub name_taken : (v : Version) (r : Result (List ℕ) FormFault) (text : List ℕ) → Reads r (name_of v text) → Takes r (last_field (name_of v) (words text)) []
+name_taken v r text h = last_taken (name_field v) r text h
 
 pub octets_taken : (r : Result (List ℕ) FormFault) (text : List ℕ) → Reads r (octets_of text) → Takes r (last_field octets_of (words text)) []
 octets_taken r text h = last_taken octets_field r text h

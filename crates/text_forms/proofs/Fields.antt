@@ -1,5 +1,5 @@
 -- Each kind of field: its spelling, both ways.
-use Rattle.std.proofs.Common.{◌≡◌, ℕ, zero, suc, ◌^◌, ◌<◌, Bool, true, eqb, ltb, leb, not, ◌&&◌, List, [], ◌∷◌, length, Option, Some, None, refl, sym, ap, ◌∙◌, arith}
+use Rattle.std.proofs.Common.{◌≡◌, ℕ, zero, suc, ◌^◌, ◌<◌, ◌==◌, if◌then◌else◌, Bool, true, false, eqb, ltb, leb, not, ◌&&◌, List, [], ◌∷◌, length, Option, Some, None, refl, sym, ap, ◌∙◌, arith}
 use Rattle.std.specs.Char.{is_ascii_digit}
 use Rattle.std.specs.Fmt.{decimal}
 use Rattle.std.specs.List.{list_all}
@@ -11,8 +11,9 @@ use Rattle.tree_specs.specs.declared.object.Owner.{Owner}
 use Rattle.tree_specs.specs.declared.object.Owner.TheVariants.{Root, Of}
 use Rattle.tree_specs.specs.Calls.Spelling.{Numeral}
 use Rattle.tree_specs.specs.Calls.Spelling.Numeral.{Number}
-use Rattle.tree_specs.specs.Texts.Grammar.{◌>>=◌, number_of, numeral_of, owner_of, object_of, name_of}
-use Rattle.tree_specs.specs.Words.Names.{is_name, is_graphic}
+use Rattle.tree_specs.specs.Texts.Grammar.{◌>>=◌, number_of, numeral_of, owner_of, object_of, name_of, context_of}
+use Rattle.tree_specs.specs.declared.schedule.Version.{Version}
+use Rattle.tree_specs.specs.Words.Names.{is_name, is_name_in, is_short_in, is_graphic}
 use Rattle.tree_specs.specs.Words.Objects.{owner_number, numbered_owner}
 use Rattle.tree_specs.specs.Words.Ranges.{is_number, is_in, is_sound_owner}
 use Rattle.text_forms.specs.Reads.{in_range, ReadsNumeral}
@@ -128,6 +129,20 @@ pub object_field : IsField object_of (λ x. decimal x.0) (λ x. is_number x.0)
 unfolding object_of
 object_field = by_number (λ n. record { 0 = n }) (λ (x : Obj). x.0) (λ x. is_number x.0) (λ n lt. (refl, is_number_from n lt)) (λ x h. (h, refl))
 
+-- ---- the context
+
+-- 0 is its number
+context_number : (n : ℕ) (c : Unit {0}) → is_number n ≡ true → (if n == 0 then Some tt else None) ≡ Some c → (0 ≡ n) × (true ≡ true)
+context_number zero c h e = (refl, refl)
+context_number (suc n) c h e =
+    let other : (suc n == 0) ≡ false = grind (arith, nat_tests) in
+    let bad : None ≡ Some c = rw other at e in
+    absurd cc
+
+pub context_field : IsField context_of (λ c. decimal 0) (λ c. true)
+unfolding context_of
+context_field = by_field number_field (λ n. if n == 0 then Some tt else None) (λ c. 0) (λ c. true) context_number (λ c h. (refl, refl))
+
 -- ---- what reading a number answers
 
 -- what is read is the spelling of its value, and what is none is the spelling of no number in the range
@@ -160,20 +175,20 @@ number_read found text e = numeral_is_read Number found text (e ∙ sym (number_
 graphic_is_unspaced : (b : ℕ) → is_graphic b ≡ true → not (eqb b 32) ≡ true
 graphic_is_unspaced b h = grind (arith, nat_tests)
 
-pub name_spelled : (text name : List ℕ) → name_of text ≡ Some name → (text ≡ name) × (is_name name ≡ true)
+pub name_spelled : (v : Version) (text name : List ℕ) → name_of v text ≡ Some name → (text ≡ name) × (is_name_in v name ≡ true)
 unfolding name_of
-name_spelled text name e = taken_where is_name text name e
+name_spelled v text name e = taken_where (is_name_in v) text name e
 
-name_again : (name : List ℕ) → is_name name ≡ true → name_of name ≡ Some name
+name_again : (v : Version) (name : List ℕ) → is_name_in v name ≡ true → name_of v name ≡ Some name
 unfolding name_of
-name_again name h = rw h refl
+name_again v name h = rw h refl
 
-pub name_field : IsField name_of (λ name. name) is_name
-name_field = record {
-  spelled = name_spelled;
-  again = name_again;
-  is_word = λ name h. list_all-weaker is_graphic (λ b. not (eqb b 32)) graphic_is_unspaced name (graphic name h);
+pub name_field : (v : Version) → IsField (name_of v) (λ name. name) (is_name_in v)
+name_field v = record {
+  spelled = name_spelled v;
+  again = name_again v;
+  is_word = λ name h. list_all-weaker is_graphic (λ b. not (eqb b 32)) graphic_is_unspaced name (graphic name (and_true (is_short_in v name) (is_name name) h).1);
 }
   where
     graphic : (name : List ℕ) → is_name name ≡ true → list_all is_graphic name ≡ true
-    graphic name h = (and_true (list_all is_graphic name) (leb 1 (length name)) (and_true (list_all is_graphic name && leb 1 (length name)) (leb (length name) 255) h).0).0
+    graphic name h = (and_true (list_all is_graphic name) (leb 1 (length name)) (and_true (list_all is_graphic name && leb 1 (length name)) (leb (length name) 1023) h).0).0

@@ -4,6 +4,7 @@ pub mod Numerals
 pub mod Words
 pub mod Fields
 pub mod Hexadecimal
+pub mod Contexts
 pub mod Calls
 pub mod Cursor
 pub mod Verbs

@@ -3,10 +3,13 @@ use Rattle.std.proofs.Common.{◌≡◌, ℕ, Bool, true, false, cond, List, [],
 use Rattle.std.specs.List.{filter}
 use Rattle.std.proofs.lemmas.Slice.Eq.{bytes_eq-Decides}
 use Rattle.tree_specs.specs.declared.call.Call.{Call}
+use Rattle.tree_specs.specs.declared.schedule.Version.{Version}
 use Rattle.tree_specs.specs.Calls.Spelling.{Reading, Form, forms}
 use Rattle.tree_specs.specs.Texts.Grammar.{◌>>=◌, taken, ended, read, form_in, call_of_words, call_of, words}
-use Rattle.text_forms.specs.declared.verb.BareVerb.{BareVerb}
-use Rattle.text_forms.specs.declared.verb.BareVerb.TheVariants as bare
+use Rattle.text_forms.specs.declared.verb.ContextVerb.{ContextVerb}
+use Rattle.text_forms.specs.declared.verb.ContextVerb.TheVariants as context
+use Rattle.text_forms.specs.declared.verb.ObjectContextVerb.{ObjectContextVerb}
+use Rattle.text_forms.specs.declared.verb.ObjectContextVerb.TheVariants as object_context
 use Rattle.text_forms.specs.declared.verb.ObjectVerb.{ObjectVerb}
 use Rattle.text_forms.specs.declared.verb.ObjectVerb.TheVariants as object
 use Rattle.text_forms.specs.declared.verb.OwnerVerb.{OwnerVerb}
@@ -17,8 +20,6 @@ use Rattle.text_forms.specs.declared.verb.NumberVerb.{NumberVerb}
 use Rattle.text_forms.specs.declared.verb.NumberVerb.TheVariants as number
 use Rattle.text_forms.specs.declared.verb.RoutineVerb.{RoutineVerb}
 use Rattle.text_forms.specs.declared.verb.RoutineVerb.TheVariants as routine
-use Rattle.text_forms.specs.declared.verb.UserVerb.{UserVerb}
-use Rattle.text_forms.specs.declared.verb.UserVerb.TheVariants as user
 use Rattle.text_forms.specs.declared.verb.DescriptorVerb.{DescriptorVerb}
 use Rattle.text_forms.specs.declared.verb.DescriptorVerb.TheVariants as descriptor
 use Rattle.text_forms.specs.declared.verb.SizeVerb.{SizeVerb}
@@ -31,20 +32,24 @@ use Rattle.text_forms.specs.Reads.{Reads}
 use Rattle.text_forms.specs.Cursor.{Takes, Ends}
 use Rattle.text_forms.specs.Verbs.{reading_of, word_of, forms_of, IsVerbIn, IsVerb, fields_read}
 
-form_read : (form : Option Reading) (words : List (List ℕ)) → (form >>= λ reading. read reading words) ≡ ((form >>= λ reading. taken reading words) >>= ended)
-form_read None words = refl
-form_read (Some reading) words = refl
+form_read : (v : Version) (form : Option Reading) (words : List (List ℕ)) → (form >>= λ reading. read v reading words) ≡ ((form >>= λ reading. taken v reading words) >>= ended)
+form_read v None words = refl
+form_read v (Some reading) words = refl
 
 -- ---- the verb
 
 -- the forms have each verb's reading under its word
-bare_form : (verb : BareVerb) → form_in forms (word_of (verbs.Bare verb)) ≡ Some (reading_of (verbs.Bare verb))
-bare_form bare.Now = refl
-bare_form _ = refl
+context_form : (verb : ContextVerb) → form_in forms (word_of (verbs.Context verb)) ≡ Some (reading_of (verbs.Context verb))
+context_form context.Turn = refl
+context_form _ = refl
 
 object_form : (verb : ObjectVerb) → form_in forms (word_of (verbs.Object verb)) ≡ Some (reading_of (verbs.Object verb))
 object_form object.Free = refl
 object_form _ = refl
+
+object_context_form : (verb : ObjectContextVerb) → form_in forms (word_of (verbs.ObjectContext verb)) ≡ Some (reading_of (verbs.ObjectContext verb))
+object_context_form object_context.Post = refl
+object_context_form _ = refl
 
 owner_form : (verb : OwnerVerb) → form_in forms (word_of (verbs.Owner verb)) ≡ Some (reading_of (verbs.Owner verb))
 owner_form owner.Total = refl
@@ -62,10 +67,6 @@ routine_form : (verb : RoutineVerb) → form_in forms (word_of (verbs.Routine ve
 routine_form routine.Cleanup = refl
 routine_form _ = refl
 
-user_form : (verb : UserVerb) → form_in forms (word_of (verbs.User verb)) ≡ Some (reading_of (verbs.User verb))
-user_form user.Schedule = refl
-user_form _ = refl
-
 descriptor_form : (verb : DescriptorVerb) → form_in forms (word_of (verbs.Descriptor verb)) ≡ Some (reading_of (verbs.Descriptor verb))
 descriptor_form descriptor.Close = refl
 descriptor_form _ = refl
@@ -75,13 +76,13 @@ size_form size.New = refl
 size_form _ = refl
 
 verb_form : (verb : Verb) → form_in forms (word_of verb) ≡ Some (reading_of verb)
-verb_form (verbs.Bare verb) = bare_form verb
+verb_form (verbs.Context verb) = context_form verb
 verb_form (verbs.Object verb) = object_form verb
+verb_form (verbs.ObjectContext verb) = object_context_form verb
 verb_form (verbs.Owner verb) = owner_form verb
 verb_form (verbs.OwnerObject verb) = owner_object_form verb
 verb_form (verbs.Number verb) = number_form verb
 verb_form (verbs.Routine verb) = routine_form verb
-verb_form (verbs.User verb) = user_form verb
 verb_form (verbs.Descriptor verb) = descriptor_form verb
 verb_form (verbs.Size verb) = size_form verb
 verb_form _ = refl
@@ -108,24 +109,24 @@ is_verb letters (Some verb) word h is = is
 -- ---- the verb and the fields
 
 -- the verb was read, and then the fields
-with_verb : (text word : List ℕ) (more : List (List ℕ)) (verb : Verb) → words text ≡ word ∷ more → word ≡ word_of verb → call_of text ≡ (fields_read verb more >>= ended)
+with_verb : (v : Version) (text word : List ℕ) (more : List (List ℕ)) (verb : Verb) → words text ≡ word ∷ more → word ≡ word_of verb → call_of v text ≡ (fields_read v verb more >>= ended)
 unfolding call_of call_of_words fields_read
-with_verb text word more verb first is =
-    ap call_of_words (first ∙ ap (λ (w : List ℕ). w ∷ more) is) ∙ form_read (form_in forms (word_of verb)) more
-    ∙ ap (λ (form : Option Reading). (form >>= λ reading. taken reading more) >>= ended) (verb_form verb)
+with_verb v text word more verb first is =
+    ap (call_of_words v) (first ∙ ap (λ (w : List ℕ). w ∷ more) is) ∙ form_read v (form_in forms (word_of verb)) more
+    ∙ ap (λ (form : Option Reading). (form >>= λ reading. taken v reading more) >>= ended) (verb_form verb)
 
-pub no_verb : (text word : List ℕ) (more : List (List ℕ)) → words text ≡ word ∷ more → form_in forms word ≡ None → call_of text ≡ None
+pub no_verb : (v : Version) (text word : List ℕ) (more : List (List ℕ)) → words text ≡ word ∷ more → form_in forms word ≡ None → call_of v text ≡ None
 unfolding call_of call_of_words
-no_verb text word more first isnt = ap call_of_words first ∙ rw isnt refl
+no_verb v text word more first isnt = ap (call_of_words v) first ∙ rw isnt refl
 
-pub no_fields : (text word : List ℕ) (more left : List (List ℕ)) (verb : Verb) (e : FormFault) → words text ≡ word ∷ more → word ≡ word_of verb → Takes (Err e) (fields_read verb more) left → Reads (Err e) (call_of text)
-no_fields text word more left verb Memory first is h = tt
-no_fields text word more left verb NoForm first is h = with_verb text word more verb first is ∙ rw h refl
+pub no_fields : (v : Version) (text word : List ℕ) (more left : List (List ℕ)) (verb : Verb) (e : FormFault) → words text ≡ word ∷ more → word ≡ word_of verb → Takes (Err e) (fields_read v verb more) left → Reads (Err e) (call_of v text)
+no_fields v text word more left verb Memory first is h = tt
+no_fields v text word more left verb NoForm first is h = with_verb v text word more verb first is ∙ rw h refl
 
-pub no_end : (text word : List ℕ) (more left : List (List ℕ)) (verb : Verb) (call : Call) (e : FormFault) → words text ≡ word ∷ more → word ≡ word_of verb → fields_read verb more ≡ Some (call, left) → Ends (Err e) left → Reads (Err e) (call_of text)
-no_end text word more left verb call Memory first is h ends = absurd ends
-no_end text word more [] verb call NoForm first is h ends = absurd (ends refl)
-no_end text word more (next ∷ left) verb call NoForm first is h ends = with_verb text word more verb first is ∙ rw h refl
+pub no_end : (v : Version) (text word : List ℕ) (more left : List (List ℕ)) (verb : Verb) (call : Call) (e : FormFault) → words text ≡ word ∷ more → word ≡ word_of verb → fields_read v verb more ≡ Some (call, left) → Ends (Err e) left → Reads (Err e) (call_of v text)
+no_end v text word more left verb call Memory first is h ends = absurd ends
+no_end v text word more [] verb call NoForm first is h ends = absurd (ends refl)
+no_end v text word more (next ∷ left) verb call NoForm first is h ends = with_verb v text word more verb first is ∙ rw h refl
 
-pub all_read : (text word : List ℕ) (more left : List (List ℕ)) (verb : Verb) (call : Call) → words text ≡ word ∷ more → word ≡ word_of verb → fields_read verb more ≡ Some (call, left) → left ≡ [] → call_of text ≡ Some call
-all_read text word more left verb call first is h ends = with_verb text word more verb first is ∙ rw (h, ends) refl
+pub all_read : (v : Version) (text word : List ℕ) (more left : List (List ℕ)) (verb : Verb) (call : Call) → words text ≡ word ∷ more → word ≡ word_of verb → fields_read v verb more ≡ Some (call, left) → left ≡ [] → call_of v text ≡ Some call
+all_read v text word more left verb call first is h ends = with_verb v text word more verb first is ∙ rw (h, ends) refl

@@ -2,6 +2,7 @@
 use Rattle.std.specs.Prelude.{ℕ, Bool, true, nat_lt, List}
 use Rattle.std.specs.List.{list_all}
 use Rattle.tree_specs.specs.declared.call.Call.{Call}
+use Rattle.tree_specs.specs.declared.schedule.Version.TheVariants.{One}
 use Rattle.tree_specs.specs.Calls.Spelling.{Field, spelling}
 use Rattle.tree_specs.specs.Calls.Spelling.Field.{SomeBytes}
 
@@ -13,4 +14,4 @@ field_has_bytes (SomeBytes bytes) = are_bytes bytes
 field_has_bytes f = true
 
 abbrev pub has_bytes : Call → Bool
-has_bytes c = list_all field_has_bytes (spelling c).fields
+has_bytes c = list_all field_has_bytes (spelling One c).fields

@@ -5,12 +5,16 @@ use Rattle.tree_specs.specs.declared.object.Owner.{Owner}
 use Rattle.tree_specs.specs.declared.object.Owner.TheVariants.{Root}
 use Rattle.tree_specs.specs.declared.call.Call.{Call}
 use Rattle.tree_specs.specs.declared.call.Call.TheVariants as calls
-use Rattle.tree_specs.specs.Calls.Spelling.{spelling, Reading, Form, forms, takes_number, of_object, of_owner, owner_and_object, of_descriptor, object_and_number, object_and_routine}
+use Rattle.tree_specs.specs.declared.schedule.Version.{Version}
+use Rattle.tree_specs.specs.declared.schedule.Version.TheVariants.{One}
+use Rattle.tree_specs.specs.Calls.Spelling.{spelling, Reading, Form, forms, takes_number, of_object, object_in_context, of_owner, owner_and_object, of_descriptor, object_and_number, object_and_routine}
 use Rattle.tree_specs.specs.Calls.Spelling.Numeral.{Number32, Positive32, Time, FdFlags, Length}
-use Rattle.tree_specs.specs.Calls.Spelling.Reading.{NoMore, TakesOwner, TakesObject, TakesNumeral, EndsInName, EndsInBytes}
+use Rattle.tree_specs.specs.Calls.Spelling.Reading.{NoMore, TakesOwner, TakesObject, TakesNumeral, EndsInName, EndsInBytes, EndsInContext}
 use Rattle.tree_specs.specs.Texts.Grammar.{form_in, taken}
-use Rattle.text_forms.specs.declared.verb.BareVerb.{BareVerb}
-use Rattle.text_forms.specs.declared.verb.BareVerb.TheVariants as bare
+use Rattle.text_forms.specs.declared.verb.ContextVerb.{ContextVerb}
+use Rattle.text_forms.specs.declared.verb.ContextVerb.TheVariants as context
+use Rattle.text_forms.specs.declared.verb.ObjectContextVerb.{ObjectContextVerb}
+use Rattle.text_forms.specs.declared.verb.ObjectContextVerb.TheVariants as object_context
 use Rattle.text_forms.specs.declared.verb.ObjectVerb.{ObjectVerb}
 use Rattle.text_forms.specs.declared.verb.ObjectVerb.TheVariants as object
 use Rattle.text_forms.specs.declared.verb.OwnerVerb.{OwnerVerb}
@@ -21,8 +25,6 @@ use Rattle.text_forms.specs.declared.verb.NumberVerb.{NumberVerb}
 use Rattle.text_forms.specs.declared.verb.NumberVerb.TheVariants as number
 use Rattle.text_forms.specs.declared.verb.RoutineVerb.{RoutineVerb}
 use Rattle.text_forms.specs.declared.verb.RoutineVerb.TheVariants as routine
-use Rattle.text_forms.specs.declared.verb.UserVerb.{UserVerb}
-use Rattle.text_forms.specs.declared.verb.UserVerb.TheVariants as user
 use Rattle.text_forms.specs.declared.verb.DescriptorVerb.{DescriptorVerb}
 use Rattle.text_forms.specs.declared.verb.DescriptorVerb.TheVariants as descriptor
 use Rattle.text_forms.specs.declared.verb.SizeVerb.{SizeVerb}
@@ -32,10 +34,9 @@ use Rattle.text_forms.specs.declared.verb.Verb.TheVariants as verbs
 
 -- ---- the calls of the verbs that have one shape
 
-abbrev pub bare_call : BareVerb → Call
-bare_call bare.Pending = calls.Pending
-bare_call bare.Now = calls.Now
-bare_call bare.Turn = calls.Turn
+abbrev pub context_call : ContextVerb → Call
+context_call context.Pending = calls.Pending
+context_call context.Turn = calls.Turn
 
 abbrev pub object_call : ObjectVerb → Obj → Call
 object_call object.Free x = calls.Free x
@@ -45,9 +46,7 @@ object_call object.Parent x = calls.Parent x
 object_call object.Unschedule x = calls.Unschedule x
 object_call object.Getflags x = calls.Getflags x
 object_call object.Autoclose x = calls.Autoclose x
-object_call object.Defer x = calls.Defer x
 object_call object.Cancel x = calls.Cancel x
-object_call object.Post x = calls.Post x
 object_call object.Done x = calls.Done x
 object_call object.Oom x = calls.Oom x
 object_call object.Iserror x = calls.Iserror x
@@ -57,6 +56,10 @@ object_call object.Start x = calls.Start x
 object_call object.Stop x = calls.Stop x
 object_call object.Length x = calls.Length x
 object_call object.Running x = calls.Running x
+
+abbrev pub object_context_call : ObjectContextVerb → Obj → Call
+object_context_call object_context.Defer x = calls.Defer x
+object_context_call object_context.Post x = calls.Post x
 
 abbrev pub owner_call : OwnerVerb → Owner → Call
 owner_call owner.Total o = calls.Total o
@@ -80,10 +83,6 @@ abbrev pub routine_call : RoutineVerb → Obj → ℕ → Call
 routine_call routine.Cleanup x r = calls.Cleanup x r
 routine_call routine.Setcancel x r = calls.Setcancel x r
 
-abbrev pub user_call : UserVerb → Obj → ℕ → ℕ → Call
-user_call user.Schedule x r n = calls.Schedule x r n
-user_call user.Callback x r n = calls.Callback x r n
-
 abbrev pub descriptor_call : DescriptorVerb → ℕ → Call
 descriptor_call descriptor.Close fd = calls.Close fd
 descriptor_call descriptor.Accept fd = calls.Accept fd
@@ -96,55 +95,61 @@ size_call size.Req o n name = calls.Req o n name
 
 -- the fields that come after a verb, and the call that they make
 abbrev pub reading_of : Verb → Reading
-reading_of (verbs.Bare verb) = NoMore (bare_call verb)
+reading_of (verbs.Context verb) = EndsInContext (context_call verb)
 reading_of (verbs.Object verb) = of_object (object_call verb)
+reading_of (verbs.ObjectContext verb) = object_in_context (object_context_call verb)
 reading_of (verbs.Owner verb) = of_owner (owner_call verb)
 reading_of (verbs.OwnerObject verb) = owner_and_object (owner_object_call verb)
 reading_of (verbs.Number verb) = object_and_number (number_call verb)
 reading_of (verbs.Routine verb) = object_and_routine (routine_call verb)
-reading_of (verbs.User verb) = TakesObject (λ x. TakesNumeral Number32 (λ r. takes_number (λ n. NoMore (user_call verb x r n))))
 reading_of (verbs.Descriptor verb) = of_descriptor (descriptor_call verb)
 reading_of (verbs.Size verb) = TakesOwner (λ o. takes_number (λ n. EndsInName (λ name. size_call verb o n name)))
 reading_of verbs.Reparent = TakesOwner (λ from. owner_and_object (λ to x. calls.Reparent from to x))
 reading_of verbs.Hook = TakesObject (λ x. TakesNumeral Positive32 (λ r. NoMore (calls.Hook x r)))
 reading_of verbs.Rename = TakesObject (λ x. EndsInName (λ name. calls.Rename x name))
-reading_of verbs.Timer = TakesOwner (λ o. TakesNumeral Time (λ t. TakesNumeral Positive32 (λ r. takes_number (λ n. NoMore (calls.Timer o t r n)))))
-reading_of verbs.Fd = TakesOwner (λ o. TakesNumeral Number32 (λ fd. TakesNumeral FdFlags (λ flags. TakesNumeral Positive32 (λ r. takes_number (λ n. NoMore (calls.Fd o fd flags r n))))))
+reading_of verbs.Schedule = TakesObject (λ x. TakesNumeral Number32 (λ r. takes_number (λ n. EndsInContext (calls.Schedule x r n))))
+reading_of verbs.Timer = TakesOwner (λ o. TakesNumeral Time (λ t. TakesNumeral Positive32 (λ r. takes_number (λ n. EndsInContext (calls.Timer o t r n)))))
+reading_of verbs.Fd = TakesOwner (λ o. TakesNumeral Number32 (λ fd. TakesNumeral FdFlags (λ flags. TakesNumeral Positive32 (λ r. takes_number (λ n. EndsInContext (calls.Fd o fd flags r n))))))
 reading_of verbs.Flags = TakesObject (λ x. TakesNumeral FdFlags (λ flags. NoMore (calls.Flags x flags)))
-reading_of verbs.Endtime = TakesObject (λ x. TakesNumeral Time (λ t. NoMore (calls.Endtime x t)))
+reading_of verbs.Endtime = TakesObject (λ x. TakesNumeral Time (λ t. EndsInContext (calls.Endtime x t)))
 reading_of verbs.Read = TakesNumeral Number32 (λ fd. TakesNumeral Length (λ len. NoMore (calls.Read fd len)))
 reading_of verbs.Write = TakesNumeral Number32 (λ fd. EndsInBytes (λ bytes. calls.Write fd bytes))
+reading_of verbs.Callback = TakesObject (λ x. TakesNumeral Number32 (λ r. takes_number (λ n. NoMore (calls.Callback x r n))))
 reading_of verbs.Queue = TakesOwner (λ o. EndsInName (λ name. calls.Queue o name))
-reading_of verbs.Enqueue = TakesObject (λ queue. TakesObject (λ x. TakesNumeral Positive32 (λ r. takes_number (λ n. NoMore (calls.Enqueue queue x r n)))))
+reading_of verbs.Enqueue = TakesObject (λ queue. TakesObject (λ x. TakesNumeral Positive32 (λ r. takes_number (λ n. EndsInContext (calls.Enqueue queue x r n)))))
+reading_of verbs.Now = NoMore calls.Now
 
 abbrev no_object : Obj
 no_object = record { 0 = 0 }
 
 -- a call of this verb, whatever its fields
 abbrev pub some_call : Verb → Call
-some_call (verbs.Bare verb) = bare_call verb
+some_call (verbs.Context verb) = context_call verb
 some_call (verbs.Object verb) = object_call verb no_object
+some_call (verbs.ObjectContext verb) = object_context_call verb no_object
 some_call (verbs.Owner verb) = owner_call verb Root
 some_call (verbs.OwnerObject verb) = owner_object_call verb Root no_object
 some_call (verbs.Number verb) = number_call verb no_object 0
 some_call (verbs.Routine verb) = routine_call verb no_object 0
-some_call (verbs.User verb) = user_call verb no_object 0 0
 some_call (verbs.Descriptor verb) = descriptor_call verb 0
 some_call (verbs.Size verb) = size_call verb Root 0 []
 some_call verbs.Reparent = calls.Reparent Root Root no_object
 some_call verbs.Hook = calls.Hook no_object 0
 some_call verbs.Rename = calls.Rename no_object []
+some_call verbs.Schedule = calls.Schedule no_object 0 0
 some_call verbs.Timer = calls.Timer Root 0 0 0
 some_call verbs.Fd = calls.Fd Root 0 0 0 0
 some_call verbs.Flags = calls.Flags no_object 0
 some_call verbs.Endtime = calls.Endtime no_object 0
 some_call verbs.Read = calls.Read 0 0
 some_call verbs.Write = calls.Write 0 []
+some_call verbs.Callback = calls.Callback no_object 0 0
 some_call verbs.Queue = calls.Queue Root []
 some_call verbs.Enqueue = calls.Enqueue no_object no_object 0 0
+some_call verbs.Now = calls.Now
 
 abbrev pub word_of : Verb → List ℕ
-word_of verb = (spelling (some_call verb)).verb
+word_of verb = (spelling One (some_call verb)).verb
 
 -- the forms whose verbs have such a number of letters
 abbrev pub forms_of : (ℕ → Bool) → List Form
@@ -159,5 +164,5 @@ abbrev pub IsVerb : Option Verb → List ℕ → Type 0
 IsVerb verb word = IsVerbIn forms verb word
 
 -- the call of this verb whose fields the words begin with, and the words that it leaves
-unfoldable pub fields_read : Verb → List (List ℕ) → Option (Call × List (List ℕ))
-fields_read verb words = taken (reading_of verb) words
+unfoldable pub fields_read : Version → Verb → List (List ℕ) → Option (Call × List (List ℕ))
+fields_read v verb words = taken v (reading_of verb) words

@@ -1,6 +1,7 @@
 //! Calls are written as their text.
 
 ghost use Rattle.std.specs.Prelude.{◌≡◌, ◌++◌, IsTrue, Some, codes};
+ghost use Rattle.tree_specs.specs.declared.schedule.Version.TheVariants.{Two};
 ghost use Rattle.tree_specs.specs.Texts.Grammar.{call_of};
 ghost use Rattle.tree_specs.specs.Words.Ranges.{is_sound_call};
 ghost use Rattle.tree_specs.specs.Texts.Text.{call_text, numbers_text};
@@ -41,6 +42,7 @@ fn write_spelling(spelling: Spelling, out: &mut Vec<u8>) -> Result<(), Memory>
         CallFields::Three(a, b, c) => write_fields(verb, &[a, b, c], out),
         CallFields::Four(a, b, c, d) => write_fields(verb, &[a, b, c, d], out),
         CallFields::Five(a, b, c, d, e) => write_fields(verb, &[a, b, c, d, e], out),
+        CallFields::Six(a, b, c, d, e, f) => write_fields(verb, &[a, b, c, d, e, f], out),
         CallFields::OneAndName(a, name) => write_named(verb, &[a], name, out),
         CallFields::TwoAndName(a, b, name) => write_named(verb, &[a, b], name, out),
         CallFields::OneAndBytes(a, bytes) => write_octets(verb, &[a], bytes, b"", out),
@@ -50,7 +52,7 @@ fn write_spelling(spelling: Spelling, out: &mut Vec<u8>) -> Result<(), Memory>
 /// The call's verb and its fields, as the text's definition has them.
 #[tactic(auto, unfolding(tree_specs::specs::Texts::Text::call_text))]
 fn write_text(call: &Call, out: &mut Vec<u8>) -> Result<(), Memory>
-    ensures { Writes out.old.items out.new.items result (call_text call.now) }
+    ensures { Writes out.old.items out.new.items result (call_text Two call.now) }
 {
     write_spelling(spell(call), out)
 }
@@ -64,13 +66,13 @@ pub fn the_bytes_of_a_call_are_bytes(call: &Call)
     }
 }
 
-/// Appends the one spelling of a call. When memory runs out, a prefix of it was appended.
+/// Appends the one spelling of a call in version 2. When memory runs out, a prefix of it was appended.
 #[tactic(auto, using(crate::proofs::Calls::call_again))]
 pub fn write_call(call: &Call, out: &mut Vec<u8>) -> Result<(), Memory>
     // Each number is in the range of its field: an owner that isn't the root has one from 1 upwards.
     requires { IsTrue (is_sound_call call.now) }
-    ensures written { Writes out.old.items out.new.items result (call_text call.now) }
-    ensures read_back { call_of (call_text call.now) ≡ Some call.now }
+    ensures written { Writes out.old.items out.new.items result (call_text Two call.now) }
+    ensures read_back { call_of Two (call_text Two call.now) ≡ Some call.now }
 {
     the_bytes_of_a_call_are_bytes(call);
     write_text(call, out)

@@ -3,7 +3,7 @@
 ghost use Rattle.std.specs.Prelude.{◌≡◌, List, ℕ};
 ghost use Rattle.std.specs.Option.{option_map};
 ghost use Rattle.tree_specs.specs.Calls.Spelling.Numeral.{Number, Number32, Positive32, Time, FdFlags, Length};
-ghost use Rattle.tree_specs.specs.Texts.Grammar.{words, number_of, numeral_of, owner_of, object_of, name_of, octets_of, field, last_field};
+ghost use Rattle.tree_specs.specs.Texts.Grammar.{words, number_of, numeral_of, owner_of, object_of, name_of, context_at, octets_of, field, last_field};
 ghost use Rattle.text_forms.specs.Cursor.{words_left, Takes, Ends};
 
 use crate::form::FormFault;
@@ -13,7 +13,7 @@ use crate::octets::read_octets;
 use crate::range::{as_flags, as_length, as_positive, as_time, as_u32};
 use std::alloc::Global;
 use std::marker::Model;
-use tree_specs::{Name, Obj, Octets, Owner};
+use tree_specs::{Name, Obj, Octets, Owner, Version};
 
 /// The number that the text's first word spells, and what follows the space behind the word, where there is one. None
 /// exactly where the word spells no number below 2 ^ 64.
@@ -135,11 +135,25 @@ impl<'a> Fields<'a> {
     /// A name field, which no other follows: a name has no space, so it is all that is left of the text.
     #[inline(always)]
     #[tactic(auto, using(crate::proofs::Cursor::name_taken))]
-    pub(crate) fn name(&mut self) -> Result<Name, FormFault>
-        ensures { Takes result (last_field name_of self.old) self.new }
+    pub(crate) fn name(&mut self, version: Version) -> Result<Name, FormFault>
+        ensures { Takes result (last_field (name_of version) self.old) self.new }
     {
         let text = self.rest.take().ok_or(FormFault::NoForm)?;
-        read_name(self.alloc, text)
+        read_name(self.alloc, text, version)
+    }
+
+    /// The context that a call says last, where one is said: 0, as there is no other than the first one.
+    #[tactic(auto, unfolding(tree_specs::specs::Texts::Grammar::context_of))]
+    pub(crate) fn context(&mut self, version: Version) -> Result<(), FormFault>
+        ensures { Takes result (context_at version self.old) self.new }
+    {
+        match version {
+            Version::One => Ok(()),
+            Version::Two => match self.digits()? {
+                0 => Ok(()),
+                _ => Err(FormFault::NoForm),
+            },
+        }
     }
 
     /// A field of bytes, which no other follows: their spelling has no space.

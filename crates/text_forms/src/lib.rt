@@ -16,8 +16,6 @@ mod refusal;
 mod report_row;
 mod spelling;
 mod split;
-#[cfg(test)]
-mod tests;
 mod verb;
 mod verb_fields;
 mod verb_words;

@@ -1,13 +1,17 @@
 //! How a call is spelled: its verb, and the numbers, the name or the bytes that come after it.
 
 ghost use Rattle.std.specs.Prelude.{◌≡◌, ◌++◌, codes, flat_map};
+ghost use Rattle.tree_specs.specs.declared.schedule.Version.TheVariants.{Two};
 ghost use Rattle.tree_specs.specs.Calls.Spelling.{spelling};
 ghost use Rattle.tree_specs.specs.Texts.Text.{field_text};
 ghost use Rattle.text_forms.specs.Spelled.{fields_text};
 
 use tree_specs::{Call, Name, Octets};
 
-/// The fields of a call, in order: so many numbers, and a name or bytes behind them.
+/// The number of the context that each call is in: the first one, as there is no other.
+const FIRST_CONTEXT: u64 = 0;
+
+/// The fields of a call, in order: so many numbers, with the context as one, and a name or bytes behind them.
 pub(crate) enum CallFields<'a> {
     Bare,
     One(u64),
@@ -15,6 +19,7 @@ pub(crate) enum CallFields<'a> {
     Three(u64, u64, u64),
     Four(u64, u64, u64, u64),
     Five(u64, u64, u64, u64, u64),
+    Six(u64, u64, u64, u64, u64, u64),
     OneAndName(u64, &'a Name),
     TwoAndName(u64, u64, &'a Name),
     OneAndBytes(u64, &'a Octets),
@@ -35,18 +40,19 @@ macro_rules! spelled {
     };
 }
 
-/// The verb of a call, and its fields.
+/// The verb of a call, and its fields in version 2: the context of a call comes last.
 #[inline(always)]
 pub(crate) fn spell(call: &Call) -> Spelling<'_>
-    ensures verb { result.verb.now ≡ (spelling call.now).verb }
-    ensures fields { fields_text result.fields ≡ flat_map (λ f. codes " " ++ field_text f) (spelling call.now).fields }
+    ensures verb { result.verb.now ≡ (spelling Two call.now).verb }
+    ensures fields { fields_text result.fields ≡ flat_map (λ f. codes " " ++ field_text f) (spelling Two call.now).fields }
 {
     spelled!(call:
-        CallFields::Bare, of Pending {} b"pending", Now {} b"now", Turn {} b"turn";
+        CallFields::Bare, of Now {} b"now";
+        CallFields::One(FIRST_CONTEXT), of Pending {} b"pending", Turn {} b"turn";
         CallFields::One(x.0), of
             Free { x } b"free", Freekids { x } b"freekids", Unhook { x } b"unhook", Parent { x } b"parent",
             Unschedule { x } b"unschedule", Getflags { x } b"getflags", Autoclose { x } b"autoclose",
-            Defer { x } b"defer", Cancel { x } b"cancel", Post { x } b"post", Done { x } b"done", Oom { x } b"oom",
+            Cancel { x } b"cancel", Done { x } b"done", Oom { x } b"oom",
             Iserror { x } b"iserror", Progress { x } b"progress", Received { x } b"received";
         CallFields::One(queue.0), of
             Start { queue } b"start", Stop { queue } b"stop", Length { queue } b"length", Running { queue } b"running";
@@ -58,19 +64,21 @@ pub(crate) fn spell(call: &Call) -> Spelling<'_>
             Steal { owner, x } b"steal", Move { owner, x } b"move", Reference { owner, x } b"reference",
             Unlink { owner, x } b"unlink";
         CallFields::Two(x.0, *n), of
-            Resize { x, size: n } b"resize", Limit { x, max: n } b"limit", Error { x, error: n } b"error",
-            Endtime { x, time: n } b"endtime";
+            Resize { x, size: n } b"resize", Limit { x, max: n } b"limit", Error { x, error: n } b"error";
+        CallFields::Two(x.0, FIRST_CONTEXT), of Defer { x } b"defer", Post { x } b"post";
         CallFields::Two(x.0, u64::from(*routine)), of
             Hook { x, routine } b"hook", Cleanup { x, routine } b"cleanup", Setcancel { x, routine } b"setcancel";
         CallFields::Two(x.0, u64::from(*flags)), of Flags { x, flags } b"flags";
         CallFields::Two(u64::from(*fd), u64::from(*len)), of Read { fd, len } b"read";
         CallFields::Three(from.number(), to.number(), x.0), of Reparent { from, to, x } b"reparent";
-        CallFields::Three(x.0, u64::from(*routine), *user), of
-            Schedule { x, routine, user } b"schedule", Callback { x, routine, user } b"callback";
-        CallFields::Four(owner.number(), *time, u64::from(*routine), *user), of
+        CallFields::Three(x.0, u64::from(*routine), *user), of Callback { x, routine, user } b"callback";
+        CallFields::Three(x.0, *time, FIRST_CONTEXT), of Endtime { x, time } b"endtime";
+        CallFields::Four(x.0, u64::from(*routine), *user, FIRST_CONTEXT), of Schedule { x, routine, user } b"schedule";
+        CallFields::Five(owner.number(), *time, u64::from(*routine), *user, FIRST_CONTEXT), of
             Timer { owner, time, routine, user } b"timer";
-        CallFields::Four(queue.0, x.0, u64::from(*routine), *user), of Enqueue { queue, x, routine, user } b"enqueue";
-        CallFields::Five(owner.number(), u64::from(*fd), u64::from(*flags), u64::from(*routine), *user), of
+        CallFields::Five(queue.0, x.0, u64::from(*routine), *user, FIRST_CONTEXT), of
+            Enqueue { queue, x, routine, user } b"enqueue";
+        CallFields::Six(owner.number(), u64::from(*fd), u64::from(*flags), u64::from(*routine), *user, FIRST_CONTEXT), of
             Fd { owner, fd, flags, routine, user } b"fd";
         CallFields::OneAndName(x.0, name), of Rename { x, name } b"rename";
         CallFields::OneAndName(owner.number(), name), of Queue { owner, name } b"queue";

@@ -1,10 +1,9 @@
 //! The verbs of calls, by the shape of the fields that come after them.
 
-/// A verb of no fields.
+/// A verb of a context alone, where one is said.
 #[derive(Clone, Copy)]
-pub(crate) enum BareVerb {
+pub(crate) enum ContextVerb {
     Pending,
-    Now,
     Turn,
 }
 
@@ -18,9 +17,7 @@ pub(crate) enum ObjectVerb {
     Unschedule,
     Getflags,
     Autoclose,
-    Defer,
     Cancel,
-    Post,
     Done,
     Oom,
     Iserror,
@@ -30,6 +27,13 @@ pub(crate) enum ObjectVerb {
     Stop,
     Length,
     Running,
+}
+
+/// A verb of an object, and a context where one is said.
+#[derive(Clone, Copy)]
+pub(crate) enum ObjectContextVerb {
+    Defer,
+    Post,
 }
 
 /// A verb of an owner alone.
@@ -66,13 +70,6 @@ pub(crate) enum RoutineVerb {
     Setcancel,
 }
 
-/// A verb of an object, a routine, where 0 is none, and a user number.
-#[derive(Clone, Copy)]
-pub(crate) enum UserVerb {
-    Schedule,
-    Callback,
-}
-
 /// A verb of a descriptor alone.
 #[derive(Clone, Copy)]
 pub(crate) enum DescriptorVerb {
@@ -90,24 +87,27 @@ pub(crate) enum SizeVerb {
 /// What a call asks for: its first word. A shape that no two verbs share has its verb's name.
 #[derive(Clone, Copy)]
 pub(crate) enum Verb {
-    Bare(BareVerb),
+    Context(ContextVerb),
     Object(ObjectVerb),
+    ObjectContext(ObjectContextVerb),
     Owner(OwnerVerb),
     OwnerObject(OwnerObjectVerb),
     Number(NumberVerb),
     Routine(RoutineVerb),
-    User(UserVerb),
     Descriptor(DescriptorVerb),
     Size(SizeVerb),
     Reparent,
     Hook,
     Rename,
+    Schedule,
     Timer,
     Fd,
     Flags,
     Endtime,
     Read,
     Write,
+    Callback,
     Queue,
     Enqueue,
+    Now,
 }

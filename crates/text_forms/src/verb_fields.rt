@@ -3,32 +3,42 @@
 ghost use Rattle.std.specs.Prelude.{◌≡◌};
 ghost use Rattle.text_forms.specs.declared.verb.Verb.TheVariants as verbs;
 ghost use Rattle.text_forms.specs.Cursor.{Takes};
-ghost use Rattle.text_forms.specs.Verbs.{bare_call, object_call, reading_of, fields_read};
+ghost use Rattle.text_forms.specs.Verbs.{object_call, reading_of, fields_read};
 ghost use Rattle.tree_specs.specs.Texts.Grammar.{taken};
+ghost use Rattle.tree_specs.specs.declared.schedule.Version.{Version as VersionData};
 
 use crate::field::Fields;
 use crate::form::FormFault;
 use crate::verb::{
-    BareVerb, DescriptorVerb, NumberVerb, ObjectVerb, OwnerObjectVerb, OwnerVerb, RoutineVerb,
-    SizeVerb, UserVerb, Verb,
+    ContextVerb, DescriptorVerb, NumberVerb, ObjectContextVerb, ObjectVerb, OwnerObjectVerb,
+    OwnerVerb, RoutineVerb, SizeVerb, Verb,
 };
-use tree_specs::{Call, Obj};
+use tree_specs::{Call, Obj, Version};
 
 /// The call with these fields, each of which comes next and is of the kind that stands behind its name.
 macro_rules! call {
-    ($call:ident { $($name:ident: $kind:ident),* } from $fields:ident) => {
-        Ok(Call::$call { $($name: $fields.$kind()?),* })
+    ($call:ident { $($name:ident: $kind:ident $(($version:ident))?),* } from $fields:ident) => {
+        Ok(Call::$call { $($name: $fields.$kind($($version)?)?),* })
     };
 }
 
-/// The call of this verb, which has no fields.
-fn bare_call(verb: BareVerb) -> Call
-    ensures { result ≡ bare_call verb }
+/// The same call with its context, where one is said, behind these fields.
+macro_rules! call_in_context {
+    ($call:ident { $($name:ident: $kind:ident),* } from $fields:ident of $version:ident) => {{
+        $(let $name = $fields.$kind()?;)*
+        $fields.context($version)?;
+        Ok(Call::$call { $($name),* })
+    }};
+}
+
+/// The call of this verb, whose context comes next, where one is said.
+fn read_context(version: Version, verb: ContextVerb, fields: &mut Fields) -> Result<Call, FormFault>
+    ensures { Takes result (taken version (reading_of (verbs.Context verb)) fields.old) fields.new }
 {
+    fields.context(version)?;
     match verb {
-        BareVerb::Pending => Call::Pending,
-        BareVerb::Now => Call::Now,
-        BareVerb::Turn => Call::Turn,
+        ContextVerb::Pending => Ok(Call::Pending),
+        ContextVerb::Turn => Ok(Call::Turn),
     }
 }
 
@@ -44,9 +54,7 @@ fn object_call(verb: ObjectVerb, x: Obj) -> Call
         ObjectVerb::Unschedule => Call::Unschedule { x },
         ObjectVerb::Getflags => Call::Getflags { x },
         ObjectVerb::Autoclose => Call::Autoclose { x },
-        ObjectVerb::Defer => Call::Defer { x },
         ObjectVerb::Cancel => Call::Cancel { x },
-        ObjectVerb::Post => Call::Post { x },
         ObjectVerb::Done => Call::Done { x },
         ObjectVerb::Oom => Call::Oom { x },
         ObjectVerb::Iserror => Call::Iserror { x },
@@ -61,15 +69,31 @@ fn object_call(verb: ObjectVerb, x: Obj) -> Call
 
 /// The call of this verb, whose one field, an object, comes next.
 fn read_object(verb: ObjectVerb, fields: &mut Fields) -> Result<Call, FormFault>
-    ensures { Takes result (taken (reading_of (verbs.Object verb)) fields.old) fields.new }
+    ensures { (v : VersionData) → Takes result (taken v (reading_of (verbs.Object verb)) fields.old) fields.new }
 {
     let x = fields.object()?;
     Ok(object_call(verb, x))
 }
 
+/// The call of this verb, whose fields, an object and a context where one is said, come next.
+fn read_object_context(
+    version: Version,
+    verb: ObjectContextVerb,
+    fields: &mut Fields,
+) -> Result<Call, FormFault>
+    ensures { Takes result (taken version (reading_of (verbs.ObjectContext verb)) fields.old) fields.new }
+{
+    let x = fields.object()?;
+    fields.context(version)?;
+    match verb {
+        ObjectContextVerb::Defer => Ok(Call::Defer { x }),
+        ObjectContextVerb::Post => Ok(Call::Post { x }),
+    }
+}
+
 /// The call of this verb, whose one field, an owner, comes next.
 fn read_owner(verb: OwnerVerb, fields: &mut Fields) -> Result<Call, FormFault>
-    ensures { Takes result (taken (reading_of (verbs.Owner verb)) fields.old) fields.new }
+    ensures { (v : VersionData) → Takes result (taken v (reading_of (verbs.Owner verb)) fields.old) fields.new }
 {
     let owner = fields.owner()?;
     match verb {
@@ -83,7 +107,7 @@ fn read_owner(verb: OwnerVerb, fields: &mut Fields) -> Result<Call, FormFault>
 
 /// The call of this verb, whose fields, an owner and an object, come next.
 fn read_owner_object(verb: OwnerObjectVerb, fields: &mut Fields) -> Result<Call, FormFault>
-    ensures { Takes result (taken (reading_of (verbs.OwnerObject verb)) fields.old) fields.new }
+    ensures { (v : VersionData) → Takes result (taken v (reading_of (verbs.OwnerObject verb)) fields.old) fields.new }
 {
     let owner = fields.owner()?;
     let x = fields.object()?;
@@ -97,7 +121,7 @@ fn read_owner_object(verb: OwnerObjectVerb, fields: &mut Fields) -> Result<Call,
 
 /// The call of this verb, whose fields, an object and a number, come next.
 fn read_number(verb: NumberVerb, fields: &mut Fields) -> Result<Call, FormFault>
-    ensures { Takes result (taken (reading_of (verbs.Number verb)) fields.old) fields.new }
+    ensures { (v : VersionData) → Takes result (taken v (reading_of (verbs.Number verb)) fields.old) fields.new }
 {
     let x = fields.object()?;
     let n = fields.number()?;
@@ -110,7 +134,7 @@ fn read_number(verb: NumberVerb, fields: &mut Fields) -> Result<Call, FormFault>
 
 /// The call of this verb, whose fields, an object and a routine or 0, come next.
 fn read_routine(verb: RoutineVerb, fields: &mut Fields) -> Result<Call, FormFault>
-    ensures { Takes result (taken (reading_of (verbs.Routine verb)) fields.old) fields.new }
+    ensures { (v : VersionData) → Takes result (taken v (reading_of (verbs.Routine verb)) fields.old) fields.new }
 {
     let x = fields.object()?;
     let routine = fields.number32()?;
@@ -120,22 +144,9 @@ fn read_routine(verb: RoutineVerb, fields: &mut Fields) -> Result<Call, FormFaul
     }
 }
 
-/// The call of this verb, whose fields, an object, a routine or 0, and a user number, come next.
-fn read_user(verb: UserVerb, fields: &mut Fields) -> Result<Call, FormFault>
-    ensures { Takes result (taken (reading_of (verbs.User verb)) fields.old) fields.new }
-{
-    let x = fields.object()?;
-    let routine = fields.number32()?;
-    let user = fields.number()?;
-    match verb {
-        UserVerb::Schedule => Ok(Call::Schedule { x, routine, user }),
-        UserVerb::Callback => Ok(Call::Callback { x, routine, user }),
-    }
-}
-
 /// The call of this verb, whose one field, a descriptor, comes next.
 fn read_descriptor(verb: DescriptorVerb, fields: &mut Fields) -> Result<Call, FormFault>
-    ensures { Takes result (taken (reading_of (verbs.Descriptor verb)) fields.old) fields.new }
+    ensures { (v : VersionData) → Takes result (taken v (reading_of (verbs.Descriptor verb)) fields.old) fields.new }
 {
     let fd = fields.number32()?;
     match verb {
@@ -145,12 +156,12 @@ fn read_descriptor(verb: DescriptorVerb, fields: &mut Fields) -> Result<Call, Fo
 }
 
 /// The call of this verb, whose fields, an owner, a size and a name, come next.
-fn read_size(verb: SizeVerb, fields: &mut Fields) -> Result<Call, FormFault>
-    ensures { Takes result (taken (reading_of (verbs.Size verb)) fields.old) fields.new }
+fn read_size(version: Version, verb: SizeVerb, fields: &mut Fields) -> Result<Call, FormFault>
+    ensures { Takes result (taken version (reading_of (verbs.Size verb)) fields.old) fields.new }
 {
     let owner = fields.owner()?;
     let size = fields.number()?;
-    let name = fields.name()?;
+    let name = fields.name(version)?;
     match verb {
         SizeVerb::New => Ok(Call::New { owner, size, name }),
         SizeVerb::Req => Ok(Call::Req { owner, size, name }),
@@ -159,106 +170,127 @@ fn read_size(verb: SizeVerb, fields: &mut Fields) -> Result<Call, FormFault>
 
 /// The call `reparent`, whose fields come next.
 fn read_reparent(fields: &mut Fields) -> Result<Call, FormFault>
-    ensures { Takes result (taken (reading_of verbs.Reparent) fields.old) fields.new }
+    ensures { (v : VersionData) → Takes result (taken v (reading_of verbs.Reparent) fields.old) fields.new }
 {
     call!(Reparent { from: owner, to: owner, x: object } from fields)
 }
 
 /// The call `hook`, whose fields come next.
 fn read_hook(fields: &mut Fields) -> Result<Call, FormFault>
-    ensures { Takes result (taken (reading_of verbs.Hook) fields.old) fields.new }
+    ensures { (v : VersionData) → Takes result (taken v (reading_of verbs.Hook) fields.old) fields.new }
 {
     call!(Hook { x: object, routine: routine } from fields)
 }
 
 /// The call `rename`, whose fields come next.
-fn read_rename(fields: &mut Fields) -> Result<Call, FormFault>
-    ensures { Takes result (taken (reading_of verbs.Rename) fields.old) fields.new }
+fn read_rename(version: Version, fields: &mut Fields) -> Result<Call, FormFault>
+    ensures { Takes result (taken version (reading_of verbs.Rename) fields.old) fields.new }
 {
-    call!(Rename { x: object, name: name } from fields)
+    call!(Rename { x: object, name: name(version) } from fields)
+}
+
+/// The call `schedule`, whose fields come next.
+fn read_schedule(version: Version, fields: &mut Fields) -> Result<Call, FormFault>
+    ensures { Takes result (taken version (reading_of verbs.Schedule) fields.old) fields.new }
+{
+    call_in_context!(Schedule { x: object, routine: number32, user: number } from fields of version)
 }
 
 /// The call `timer`, whose fields come next.
-fn read_timer(fields: &mut Fields) -> Result<Call, FormFault>
-    ensures { Takes result (taken (reading_of verbs.Timer) fields.old) fields.new }
+fn read_timer(version: Version, fields: &mut Fields) -> Result<Call, FormFault>
+    ensures { Takes result (taken version (reading_of verbs.Timer) fields.old) fields.new }
 {
-    call!(Timer { owner: owner, time: time, routine: routine, user: number } from fields)
+    call_in_context!(Timer { owner: owner, time: time, routine: routine, user: number } from fields of version)
 }
 
 /// The call `fd`, whose fields come next.
-fn read_fd(fields: &mut Fields) -> Result<Call, FormFault>
-    ensures { Takes result (taken (reading_of verbs.Fd) fields.old) fields.new }
+fn read_fd(version: Version, fields: &mut Fields) -> Result<Call, FormFault>
+    ensures { Takes result (taken version (reading_of verbs.Fd) fields.old) fields.new }
 {
-    call!(Fd { owner: owner, fd: number32, flags: flags, routine: routine, user: number } from fields)
+    call_in_context!(Fd { owner: owner, fd: number32, flags: flags, routine: routine, user: number } from fields of version)
 }
 
 /// The call `flags`, whose fields come next.
 fn read_flags(fields: &mut Fields) -> Result<Call, FormFault>
-    ensures { Takes result (taken (reading_of verbs.Flags) fields.old) fields.new }
+    ensures { (v : VersionData) → Takes result (taken v (reading_of verbs.Flags) fields.old) fields.new }
 {
     call!(Flags { x: object, flags: flags } from fields)
 }
 
 /// The call `endtime`, whose fields come next.
-fn read_endtime(fields: &mut Fields) -> Result<Call, FormFault>
-    ensures { Takes result (taken (reading_of verbs.Endtime) fields.old) fields.new }
+fn read_endtime(version: Version, fields: &mut Fields) -> Result<Call, FormFault>
+    ensures { Takes result (taken version (reading_of verbs.Endtime) fields.old) fields.new }
 {
-    call!(Endtime { x: object, time: time } from fields)
+    call_in_context!(Endtime { x: object, time: time } from fields of version)
 }
 
 /// The call `read`, whose fields come next.
 fn read_read(fields: &mut Fields) -> Result<Call, FormFault>
-    ensures { Takes result (taken (reading_of verbs.Read) fields.old) fields.new }
+    ensures { (v : VersionData) → Takes result (taken v (reading_of verbs.Read) fields.old) fields.new }
 {
     call!(Read { fd: number32, len: length } from fields)
 }
 
 /// The call `write`, whose fields come next.
 fn read_write(fields: &mut Fields) -> Result<Call, FormFault>
-    ensures { Takes result (taken (reading_of verbs.Write) fields.old) fields.new }
+    ensures { (v : VersionData) → Takes result (taken v (reading_of verbs.Write) fields.old) fields.new }
 {
     call!(Write { fd: number32, bytes: bytes } from fields)
 }
 
-/// The call `queue`, whose fields come next.
-fn read_queue(fields: &mut Fields) -> Result<Call, FormFault>
-    ensures { Takes result (taken (reading_of verbs.Queue) fields.old) fields.new }
+/// The call `callback`, whose fields come next.
+fn read_callback(fields: &mut Fields) -> Result<Call, FormFault>
+    ensures { (v : VersionData) → Takes result (taken v (reading_of verbs.Callback) fields.old) fields.new }
 {
-    call!(Queue { owner: owner, name: name } from fields)
+    call!(Callback { x: object, routine: number32, user: number } from fields)
+}
+
+/// The call `queue`, whose fields come next.
+fn read_queue(version: Version, fields: &mut Fields) -> Result<Call, FormFault>
+    ensures { Takes result (taken version (reading_of verbs.Queue) fields.old) fields.new }
+{
+    call!(Queue { owner: owner, name: name(version) } from fields)
 }
 
 /// The call `enqueue`, whose fields come next.
-fn read_enqueue(fields: &mut Fields) -> Result<Call, FormFault>
-    ensures { Takes result (taken (reading_of verbs.Enqueue) fields.old) fields.new }
+fn read_enqueue(version: Version, fields: &mut Fields) -> Result<Call, FormFault>
+    ensures { Takes result (taken version (reading_of verbs.Enqueue) fields.old) fields.new }
 {
-    call!(Enqueue { queue: object, x: object, routine: routine, user: number } from fields)
+    call_in_context!(Enqueue { queue: object, x: object, routine: routine, user: number } from fields of version)
 }
 
 /// The call of this verb, whose fields come next.
 #[tactic(auto, unfolding(crate::specs::Verbs::fields_read))]
-pub(crate) fn read_fields(verb: Verb, fields: &mut Fields) -> Result<Call, FormFault>
-    ensures { Takes result (fields_read verb fields.old) fields.new }
+pub(crate) fn read_fields(
+    version: Version,
+    verb: Verb,
+    fields: &mut Fields,
+) -> Result<Call, FormFault>
+    ensures { Takes result (fields_read version verb fields.old) fields.new }
 {
     match verb {
-        Verb::Bare(verb) => Ok(bare_call(verb)),
+        Verb::Context(verb) => read_context(version, verb, fields),
         Verb::Object(verb) => read_object(verb, fields),
+        Verb::ObjectContext(verb) => read_object_context(version, verb, fields),
         Verb::Owner(verb) => read_owner(verb, fields),
         Verb::OwnerObject(verb) => read_owner_object(verb, fields),
         Verb::Number(verb) => read_number(verb, fields),
         Verb::Routine(verb) => read_routine(verb, fields),
-        Verb::User(verb) => read_user(verb, fields),
         Verb::Descriptor(verb) => read_descriptor(verb, fields),
-        Verb::Size(verb) => read_size(verb, fields),
+        Verb::Size(verb) => read_size(version, verb, fields),
         Verb::Reparent => read_reparent(fields),
         Verb::Hook => read_hook(fields),
-        Verb::Rename => read_rename(fields),
-        Verb::Timer => read_timer(fields),
-        Verb::Fd => read_fd(fields),
+        Verb::Rename => read_rename(version, fields),
+        Verb::Schedule => read_schedule(version, fields),
+        Verb::Timer => read_timer(version, fields),
+        Verb::Fd => read_fd(version, fields),
         Verb::Flags => read_flags(fields),
-        Verb::Endtime => read_endtime(fields),
+        Verb::Endtime => read_endtime(version, fields),
         Verb::Read => read_read(fields),
         Verb::Write => read_write(fields),
-        Verb::Queue => read_queue(fields),
-        Verb::Enqueue => read_enqueue(fields),
+        Verb::Callback => read_callback(fields),
+        Verb::Queue => read_queue(version, fields),
+        Verb::Enqueue => read_enqueue(version, fields),
+        Verb::Now => Ok(Call::Now),
     }
 }

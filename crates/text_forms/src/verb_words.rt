@@ -6,8 +6,8 @@ ghost use Rattle.std.specs.Prelude.{nat_eq, nat_lt};
 ghost use Rattle.text_forms.specs.Verbs.{forms_of, IsVerb, IsVerbIn};
 
 use crate::verb::{
-    BareVerb, DescriptorVerb, NumberVerb, ObjectVerb, OwnerObjectVerb, OwnerVerb, RoutineVerb,
-    SizeVerb, UserVerb, Verb,
+    ContextVerb, DescriptorVerb, NumberVerb, ObjectContextVerb, ObjectVerb, OwnerObjectVerb,
+    OwnerVerb, RoutineVerb, SizeVerb, Verb,
 };
 
 /// The verb that this word of three letters or fewer is.
@@ -20,7 +20,7 @@ fn short_verb(word: &[u8]) -> Option<Verb>
         b"fd" => Some(Verb::Fd),
         b"req" => Some(Verb::Size(SizeVerb::Req)),
         b"oom" => Some(Verb::Object(ObjectVerb::Oom)),
-        b"now" => Some(Verb::Bare(BareVerb::Now)),
+        b"now" => Some(Verb::Now),
         _ => None,
     }
 }
@@ -34,10 +34,10 @@ fn verb_of_4(word: &[u8]) -> Option<Verb>
         b"move" => Some(Verb::OwnerObject(OwnerObjectVerb::Move)),
         b"hook" => Some(Verb::Hook),
         b"read" => Some(Verb::Read),
-        b"post" => Some(Verb::Object(ObjectVerb::Post)),
+        b"post" => Some(Verb::ObjectContext(ObjectContextVerb::Post)),
         b"done" => Some(Verb::Object(ObjectVerb::Done)),
         b"stop" => Some(Verb::Object(ObjectVerb::Stop)),
-        b"turn" => Some(Verb::Bare(BareVerb::Turn)),
+        b"turn" => Some(Verb::Context(ContextVerb::Turn)),
         _ => None,
     }
 }
@@ -55,7 +55,7 @@ fn verb_of_5(word: &[u8]) -> Option<Verb>
         b"flags" => Some(Verb::Flags),
         b"close" => Some(Verb::Descriptor(DescriptorVerb::Close)),
         b"write" => Some(Verb::Write),
-        b"defer" => Some(Verb::Object(ObjectVerb::Defer)),
+        b"defer" => Some(Verb::ObjectContext(ObjectContextVerb::Defer)),
         b"error" => Some(Verb::Number(NumberVerb::Error)),
         b"queue" => Some(Verb::Queue),
         b"start" => Some(Verb::Object(ObjectVerb::Start)),
@@ -91,7 +91,7 @@ fn verb_of_7(word: &[u8]) -> Option<Verb>
         b"endtime" => Some(Verb::Endtime),
         b"enqueue" => Some(Verb::Enqueue),
         b"running" => Some(Verb::Object(ObjectVerb::Running)),
-        b"pending" => Some(Verb::Bare(BareVerb::Pending)),
+        b"pending" => Some(Verb::Context(ContextVerb::Pending)),
         _ => None,
     }
 }
@@ -103,9 +103,9 @@ fn verb_of_8(word: &[u8]) -> Option<Verb>
     match word {
         b"freekids" => Some(Verb::Object(ObjectVerb::Freekids)),
         b"reparent" => Some(Verb::Reparent),
-        b"schedule" => Some(Verb::User(UserVerb::Schedule)),
+        b"schedule" => Some(Verb::Schedule),
         b"getflags" => Some(Verb::Object(ObjectVerb::Getflags)),
-        b"callback" => Some(Verb::User(UserVerb::Callback)),
+        b"callback" => Some(Verb::Callback),
         b"progress" => Some(Verb::Object(ObjectVerb::Progress)),
         b"received" => Some(Verb::Object(ObjectVerb::Received)),
         _ => None,

@@ -9,6 +9,7 @@ use Rattle.std.proofs.lemmas.Fmt.{length-decimal-le}
 use Rattle.std.proofs.lemmas.Slice.Eq.{bytes_eq-Decides}
 use Rattle.hex.specs.Hex.{lower_digits, encode_lower}
 use Rattle.hex.proofs.HexLemmas.{length-encode_with}
+use Rattle.tree_specs.specs.declared.schedule.Version.TheVariants.{Two}
 use Rattle.tree_specs.specs.declared.object.Obj.{Obj}
 use Rattle.tree_specs.specs.declared.object.Owner.{Owner}
 use Rattle.tree_specs.specs.declared.object.Owner.TheVariants.{Root, Of}
@@ -60,10 +61,10 @@ owner_small : (o : Owner) → is_sound_owner o ≡ true → owner_number o < 2 ^
 owner_small Root h = omega arith
 owner_small (Of x) h = ltb-true x.0 (2 ^ 64) (and_true (ltb 0 x.0) (is_number x.0) h).1
 
-name_short : (name : List ℕ) → is_name name ≡ true → length name ≤ 255
-name_short name h = at_most (and_true (list_all is_graphic name && leb 1 (length name)) (leb (length name) 255) h).1
+name_short : (name : List ℕ) → is_name name ≡ true → length name ≤ 1023
+name_short name h = at_most (and_true (list_all is_graphic name && leb 1 (length name)) (leb (length name) 1023) h).1
   where
-    at_most : leb (length name) 255 ≡ true → length name ≤ 255
+    at_most : leb (length name) 1023 ≡ true → length name ≤ 1023
     at_most e = grind (arith, nat_tests)
 
 few_bytes : (bytes : List ℕ) → leb (length bytes) 65536 ≡ true → length bytes ≤ 65536
@@ -85,7 +86,7 @@ Within k (MayEnd line next) = Within k next
 Within k (TakesNumeral kind next) = (leb 21 k ≡ true) × ((n : ℕ) → Within (k - 21) (next n))
 Within k (TakesObject next) = (leb 21 k ≡ true) × ((x : Obj) → Within (k - 21) (next x))
 Within k (TakesOwner next) = (leb 21 k ≡ true) × ((o : Owner) → Within (k - 21) (next o))
-Within k (EndsInName line) = leb 256 k ≡ true
+Within k (EndsInName line) = leb 1024 k ≡ true
 Within k (EndsInBytes line) = leb 131073 k ≡ true
 
 one_more : (most k : ℕ) (word : List ℕ) (more : List (List ℕ)) → leb (suc most) k ≡ true → length word ≤ most → size more ≤ k - suc most → size (word ∷ more) ≤ k
@@ -123,8 +124,8 @@ size_within (TakesOwner next) k t (word ∷ more) l e =
     let x = has_field owner_field word more _ l e in
     one_more 20 k word more t.0 (spelled_short word _ 20 x.text_is (digits_short (owner_number x.value) (owner_small x.value x.value_is_sound))) (size_within (next x.value) (k - 21) (t.1 x.value) more l x.goes_on)
 size_within (EndsInName line) k t (word ∷ []) l e =
-    let x = has_field name_field word [] _ l e in
-    last_one 255 k word t (spelled_short word _ 255 x.text_is (name_short x.value x.value_is_sound))
+    let x = has_field (name_field Two) word [] _ l e in
+    last_one 1023 k word t (spelled_short word _ 1023 x.text_is (name_short x.value x.value_is_sound))
 size_within (EndsInBytes line) k t (word ∷ []) l e =
     let x = has_field octets_field word [] _ l e in
     last_one 131072 k word t (spelled_short word _ 131072 x.text_is (bytes_short x.value x.value_is_sound))
@@ -146,7 +147,7 @@ wider (MayEnd line next) j k le t = wider next j k le t
 wider (TakesNumeral kind next) j k le t = (enough_too 21 j k le t.0, λ n. wider (next n) (j - 21) (k - 21) (less_too 21 j k le) (t.1 n))
 wider (TakesObject next) j k le t = (enough_too 21 j k le t.0, λ x. wider (next x) (j - 21) (k - 21) (less_too 21 j k le) (t.1 x))
 wider (TakesOwner next) j k le t = (enough_too 21 j k le t.0, λ o. wider (next o) (j - 21) (k - 21) (less_too 21 j k le) (t.1 o))
-wider (EndsInName line) j k le t = enough_too 256 j k le t
+wider (EndsInName line) j k le t = enough_too 1024 j k le t
 wider (EndsInBytes line) j k le t = enough_too 131073 j k le t
 
 -- where there is room for bytes and for as much again

@@ -3,6 +3,7 @@ use Rattle.std.proofs.Common.{◌≡◌, ℕ, Bool, true, false, cond, ◌&&◌,
 use Rattle.std.specs.List.{list_all}
 use Rattle.std.specs.Str.{bytes_eq}
 use Rattle.std.proofs.lemmas.Slice.Eq.{bytes_eq-Decides}
+use Rattle.tree_specs.specs.declared.schedule.Version.TheVariants.{Two}
 use Rattle.tree_specs.specs.declared.object.Obj.{Obj}
 use Rattle.tree_specs.specs.declared.object.Owner.{Owner}
 use Rattle.tree_specs.specs.Calls.Spelling.{Numeral}
@@ -85,7 +86,7 @@ read_again (TakesOwner next) (AField (AnOwner o) ∷ ps) l h e =
     rw (owner_field.again o (and_true (is_sound_owner o) true parts.0).0) (read_again (next o) ps l parts.1 e)
 read_again (EndsInName line) (AField (AName name) ∷ []) l h e =
     let fit = and_true (is_sound_part (AField (AName name))) true h in
-    rw (name_field.again name (and_true (is_name name) true fit.0).0) e
+    rw ((name_field Two).again name (and_true (is_name name) true fit.0).0) e
 read_again (EndsInBytes line) (AField (SomeBytes bytes) ∷ []) l h e =
     let fit = and_true (is_sound_part (AField (SomeBytes bytes))) true h in
     rw (octets_field.again bytes fit.0) e
@@ -168,7 +169,7 @@ is_fed (MayEnd line next) t (w ∷ ws) l e = let f = is_fed next t (w ∷ ws) l 
 is_fed (TakesNumeral kind next) t (word ∷ more) l e = let x = has_field (numeral_field kind) word more _ l e in one_more (AField (ANumeral kind x.value)) _ (next x.value) word more l x.text_is (fits_too _ x.value_is_sound) (feed_numeral kind x.value next t.0) (is_fed (next x.value) (t.1 x.value) more l x.goes_on)
 is_fed (TakesObject next) t (word ∷ more) l e = let x = has_field object_field word more _ l e in one_more (AField (AnObject x.value)) _ (next x.value) word more l x.text_is (fits_too _ x.value_is_sound) (λ ps. refl) (is_fed (next x.value) (t x.value) more l x.goes_on)
 is_fed (TakesOwner next) t (word ∷ more) l e = let x = has_field owner_field word more _ l e in one_more (AField (AnOwner x.value)) _ (next x.value) word more l x.text_is (fits_too _ x.value_is_sound) (λ ps. refl) (is_fed (next x.value) (t x.value) more l x.goes_on)
-is_fed (EndsInName line) t (word ∷ []) l e = let x = has_field name_field word [] _ l e in last_one (AField (AName x.value)) _ word (line x.value) l x.text_is (fits_too _ x.value_is_sound) refl (same_line x.goes_on)
+is_fed (EndsInName line) t (word ∷ []) l e = let x = has_field (name_field Two) word [] _ l e in last_one (AField (AName x.value)) _ word (line x.value) l x.text_is (fits_too _ x.value_is_sound) refl (same_line x.goes_on)
   where
     same_line : {a b : Line} → Some a ≡ Some b → a ≡ b
     same_line e = cc

@@ -4,6 +4,7 @@ use Rattle.std.specs.List.{list_all}
 use Rattle.std.specs.Fmt.{decimal}
 use Rattle.std.specs.Str.{bytes_eq}
 use Rattle.std.proofs.lemmas.Slice.Eq.{bytes_eq-Decides}
+use Rattle.tree_specs.specs.declared.schedule.Version.TheVariants.{Two}
 use Rattle.tree_specs.specs.declared.object.Obj.{Obj}
 use Rattle.tree_specs.specs.declared.object.Owner.{Owner}
 use Rattle.tree_specs.specs.declared.moment.What.{What}
@@ -20,7 +21,7 @@ use Rattle.tree_specs.specs.declared.question.Ask.{Ask}
 use Rattle.tree_specs.specs.declared.question.Ask.TheVariants as asks
 use Rattle.tree_specs.specs.Calls.Spelling.{Field}
 use Rattle.tree_specs.specs.Calls.Spelling.Numeral.{Number, Number32}
-use Rattle.tree_specs.specs.Calls.Spelling.Field.{AnOwner, AnObject, ANumeral, AName, SomeBytes}
+use Rattle.tree_specs.specs.Calls.Spelling.Field.{AnOwner, AnObject, ANumeral, AName, SomeBytes, TheContext}
 use Rattle.tree_specs.specs.Texts.Grammar.{number_of, words}
 use Rattle.tree_specs.specs.Texts.Text.{field_text, what_text, row_kind_text}
 use Rattle.tree_specs.specs.Words.Names.{is_name}
@@ -248,8 +249,9 @@ field_is_word : (f : Field) → is_sound_part (AField f) ≡ true → is_unspace
 field_is_word (AnOwner o) h = owner_field.is_word o (and_true (is_sound_owner o) true h).0
 field_is_word (AnObject x) h = object_field.is_word x (and_true (is_number x.0) true h).0
 field_is_word (ANumeral kind n) h = (numeral_field kind).is_word n (and_true (is_in kind n) true h).0
-field_is_word (AName name) h = name_field.is_word name (and_true (is_name name) true h).0
+field_is_word (AName name) h = (name_field Two).is_word name (and_true (is_name name) true h).0
 field_is_word (SomeBytes bytes) h = octets_field.is_word bytes h
+field_is_word TheContext h = (numeral_field Number).is_word 0 refl
 
 all_words : (ps : List Part) → all_fit ps ≡ true → list_all word_ok ps ≡ true → list_all is_unspaced (words_of ps) ≡ true
 all_words [] h w = refl

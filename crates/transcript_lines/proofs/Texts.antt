@@ -22,7 +22,7 @@ use Rattle.tree_specs.specs.declared.question.Ask.{Ask}
 use Rattle.tree_specs.specs.declared.question.Ask.TheVariants as asks
 use Rattle.tree_specs.specs.Calls.Spelling.{Numeral, Field}
 use Rattle.tree_specs.specs.Calls.Spelling.Numeral.{Number, Number32}
-use Rattle.tree_specs.specs.Calls.Spelling.Field.{AnOwner, AnObject, ANumeral, AName, SomeBytes}
+use Rattle.tree_specs.specs.Calls.Spelling.Field.{AnOwner, AnObject, ANumeral, AName, SomeBytes, TheContext}
 use Rattle.tree_specs.specs.Words.Objects.{owner_number}
 use Rattle.tree_specs.specs.Words.Names.{is_name, is_graphic}
 use Rattle.tree_specs.specs.Words.Ranges.{is_number, is_in, is_sound_owner}
@@ -189,6 +189,7 @@ field_plain (AnObject x) h = number_plain x.0 (and_true (is_number x.0) true h).
 field_plain (ANumeral kind n) h = number_plain n (in_number kind n (and_true (is_in kind n) true h).0)
 field_plain (AName name) h = name_plain name (and_true (list_all is_graphic name) _ (and_true (list_all is_graphic name && leb 1 (length name)) _ (and_true (is_name name) true h).0).0).0
 field_plain (SomeBytes bytes) h = hex_plain bytes
+field_plain TheContext h = number_plain 0 refl
 
 part_plain : (p : Part) → is_sound_part p ≡ true → word_ok p ≡ true → has_no_lf (part_text p) ≡ true
 part_plain (AWord word) h w = (and_true (is_unspaced word) (has_no_lf word) w).1

@@ -2,6 +2,7 @@
 use Rattle.std.specs.Prelude.{ℕ, Bool, true, false, ◌&&◌, if◌then◌else◌, List, [], ◌∷◌, map, Option, Some, None, codes}
 use Rattle.std.specs.List.{list_all, join_with_byte}
 use Rattle.std.specs.Str.{bytes_eq}
+use Rattle.tree_specs.specs.declared.schedule.Version.TheVariants.{Two}
 use Rattle.tree_specs.specs.declared.object.Obj.{Obj}
 use Rattle.tree_specs.specs.declared.object.Owner.{Owner}
 use Rattle.tree_specs.specs.declared.reply.Refusal.{Refusal}
@@ -71,7 +72,7 @@ read (TakesNumeral kind next) ws = with_field (numeral_of kind) ws (λ n more. r
 read (TakesObject next) ws = with_field object_of ws (λ x more. read (next x) more)
 read (TakesOwner next) ws = with_field owner_of ws (λ owner more. read (next owner) more)
 read (EndsInName line) ws = do
-  name ← last_field name_of ws
+  name ← last_field (name_of Two) ws
   Some (line name.0)
 read (EndsInBytes line) ws = do
   bytes ← last_field octets_of ws
@@ -239,7 +240,7 @@ part_text (AField field) = field_text field
 -- a value has the range of its type
 abbrev pub is_sound_part : Part → Bool
 is_sound_part (AWord word) = true
-is_sound_part (AField field) = is_sound_field field && field_has_bytes field
+is_sound_part (AField field) = is_sound_field Two field && field_has_bytes field
 
 abbrev pub object : Obj → Part
 object x = AField (AnObject x)

@@ -20,6 +20,3 @@ pub use laws::{
 };
 pub use line::read_line;
 pub use said::{Fact, Said};
-
-#[cfg(test)]
-mod tests;

@@ -1,5 +1,6 @@
 //! The words of a line, one after the other.
 ghost use Rattle.std.specs.Prelude.{◌≡◌, List, ℕ};
+ghost use Rattle.tree_specs.specs.declared.schedule.Version.TheVariants.{Two};
 ghost use Rattle.tree_specs.specs.Calls.Spelling.Numeral.{Number, Number32};
 ghost use Rattle.tree_specs.specs.Texts.Grammar.{words, number_of, numeral_of, object_of, owner_of, name_of, octets_of, field, last_field};
 ghost use Rattle.text_forms.specs.Cursor.{words_left};
@@ -99,7 +100,7 @@ impl<'a> Words<'a> {
 
     /// Whether all that is left is a name.
     pub(crate) fn is_name(&self) -> bool
-        ensures { TakesLast result (last_field name_of self.now) }
+        ensures { TakesLast result (last_field (name_of Two) self.now) }
     {
         match self.rest {
             Some(text) => is_name(text),

@@ -7,8 +7,6 @@ mod new_row;
 mod node;
 mod owner;
 mod sums;
-#[cfg(test)]
-mod tests;
 mod tree;
 mod walk;
 mod works;

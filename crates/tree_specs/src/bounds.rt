@@ -16,7 +16,10 @@ pub const ROW_LIMIT: usize = 1_048_576;
 pub const OVERHEAD: u64 = 96;
 
 /// The longest name, in bytes.
-pub const NAME_LIMIT: usize = 255;
+pub const NAME_LIMIT: usize = 1_023;
+
+/// The longest name in a schedule of version 1 and in a line to the service, in bytes.
+pub const SHORT_NAME_LIMIT: usize = 255;
 
 /// The most bytes that one read or write passes on.
 pub const OCTETS_LIMIT: usize = 65_536;

@@ -40,8 +40,8 @@ mod wants;
 mod watch;
 
 pub use bounds::{
-    LINE_LIMIT, LINES_LIMIT, NAME_LIMIT, OCTETS_LIMIT, OVERHEAD, ROW_LIMIT, SIZE_LIMIT, TIME_LIMIT,
-    WAIT_LIMIT,
+    LINE_LIMIT, LINES_LIMIT, NAME_LIMIT, OCTETS_LIMIT, OVERHEAD, ROW_LIMIT, SHORT_NAME_LIMIT,
+    SIZE_LIMIT, TIME_LIMIT, WAIT_LIMIT,
 };
 pub use call::Call;
 pub use checked::{Checked, Rule};
@@ -66,7 +66,7 @@ pub use reply::{Refusal, Reply};
 pub use report::{ReportRow, ReportRows, RowKind};
 pub use request::{Note, State};
 pub use row::{Mark, Row};
-pub use schedule::{Mode, Reason};
+pub use schedule::{Header, Mode, Reason, Version};
 pub use test::Test;
 pub use wants::{AreWants, Want, Wants};
 pub use watch::Watch;

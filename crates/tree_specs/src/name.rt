@@ -26,7 +26,7 @@ fn is_graphic_text(bytes: &[u8]) -> bool
     bytes.iter().all(|b| is_graphic_byte(*b))
 }
 
-/// Whether the bytes are a name: 1 to 255 bytes from 0x21 to 0x7E.
+/// Whether the bytes are a name: 1 to 1,023 bytes from 0x21 to 0x7E.
 pub fn is_name_text(bytes: &[u8]) -> bool
     ensures { result ≡ is_name bytes.now }
 {
@@ -34,7 +34,7 @@ pub fn is_name_text(bytes: &[u8]) -> bool
     graphic && 1 <= bytes.len() && bytes.len() <= NAME_LIMIT
 }
 
-/// The name of an object: 1 to 255 bytes from 0x21 to 0x7E. Contracts see it as the list of its bytes.
+/// The name of an object: 1 to 1,023 bytes from 0x21 to 0x7E. Contracts see it as the list of its bytes.
 #[derive(Drop)]
 pub struct Name {
     kept: Kept,

@@ -1,6 +1,15 @@
 //! What the first line of a schedule says, and why a line is rejected.
 use thiserror::Error;
 
+/// The grammar that the lines of a schedule are in, which its first line says.
+#[derive(Clone, Copy, Debug, PartialEq, Eq)]
+pub enum Version {
+    /// Names have 255 bytes at most, and no call says its context.
+    One,
+    /// Names have 1,023 bytes at most. A call that waits for something, or waits itself, says its context last.
+    Two,
+}
+
 /// What runs the lines of a schedule, which its first line says.
 #[derive(Clone, Copy, Debug, PartialEq, Eq)]
 pub enum Mode {
@@ -8,6 +17,15 @@ pub enum Mode {
     Pool,
     /// The line service, over such a host.
     Service,
+}
+
+/// What the first line of a schedule says.
+#[derive(Clone, Copy, Debug, PartialEq, Eq)]
+pub struct Header {
+    /// The grammar of the lines after it.
+    pub version: Version,
+    /// What runs them.
+    pub mode: Mode,
 }
 
 /// Why a line of a schedule was rejected. The reasons are tried in this order.

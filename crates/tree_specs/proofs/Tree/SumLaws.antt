@@ -92,7 +92,7 @@ sum-lone rs x lone y = weight-same charge (changed left_row rs x) rs owners (λ 
     ]
 
 -- what is inside it is the same wherever it is
-sum-anywhere : (rs : List Row) (x : Obj) → Rooted rs → sum_inside rs (Of x) ≡ sum_inside (changed left_row rs x) (Of x)
+pub sum-anywhere : (rs : List Row) (x : Obj) → Rooted rs → sum_inside rs (Of x) ≡ sum_inside (changed left_row rs x) (Of x)
 sum-anywhere rs x rooted = each (owner_of rs x) refl
   where
     each : (o : Option Owner) → owner_of rs x ≡ o → sum_inside rs (Of x) ≡ sum_inside (changed left_row rs x) (Of x)

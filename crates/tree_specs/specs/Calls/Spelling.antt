@@ -1,9 +1,12 @@
--- How each call is spelled: its verb, and its fields in order. One row writes it, and one reads it.
+-- How each call is spelled in each version of the schedules: its verb, and its fields in order. One row writes it, and one
+-- reads it.
 use Rattle.std.specs.Prelude.{ℕ, List, [], ◌∷◌, ◌++◌, codes}
 use Rattle.tree_specs.specs.declared.object.Obj.{Obj}
 use Rattle.tree_specs.specs.declared.object.Owner.{Owner}
 use Rattle.tree_specs.specs.declared.call.Call.{Call}
 use Rattle.tree_specs.specs.declared.call.Call.TheVariants.{New, Free, Freekids, Steal, Move, Reparent, Reference, Unlink, Hook, Unhook, Rename, Resize, Limit, Parent, Total, Count, Sum, Report, Immediate, Schedule, Unschedule, Timer, Fd, Flags, Getflags, Autoclose, Close, Accept, Read, Write, Req, Callback, Defer, Cleanup, Setcancel, Cancel, Post, Done, Error, Oom, Iserror, Progress, Endtime, Received, Queue, Enqueue, Start, Stop, Length as QueueLength, Running, Pending, Now, Turn}
+use Rattle.tree_specs.specs.declared.schedule.Version.{Version}
+use Rattle.tree_specs.specs.declared.schedule.Version.TheVariants as versions
 
 -- the range of a number in decimal
 pub data Numeral : Type 0 where
@@ -27,6 +30,8 @@ pub data Field : Type 0 where
   AName : List ℕ → Field
   -- in hexadecimal
   SomeBytes : List ℕ → Field
+  -- the first context, which is the only one: 0
+  TheContext : Field
 
 abbrev pub a_number : ℕ → Field
 a_number n = ANumeral Number n
@@ -58,60 +63,65 @@ infixr 8 ◌with◌
 abbrev pub ◌with◌ : List ℕ → List Field → Spelling
 verb with fields = record { verb = verb; fields = fields }
 
-abbrev pub spelling : Call → Spelling
-spelling (New owner size name) = codes "new" with (AnOwner owner ∷ a_number size ∷ AName name ∷ [])
-spelling (Free x) = codes "free" with (AnObject x ∷ [])
-spelling (Freekids x) = codes "freekids" with (AnObject x ∷ [])
-spelling (Steal owner x) = codes "steal" with (AnOwner owner ∷ AnObject x ∷ [])
-spelling (Move owner x) = codes "move" with (AnOwner owner ∷ AnObject x ∷ [])
-spelling (Reparent from to x) = codes "reparent" with (AnOwner from ∷ AnOwner to ∷ AnObject x ∷ [])
-spelling (Reference owner x) = codes "reference" with (AnOwner owner ∷ AnObject x ∷ [])
-spelling (Unlink owner x) = codes "unlink" with (AnOwner owner ∷ AnObject x ∷ [])
-spelling (Hook x routine) = codes "hook" with (AnObject x ∷ a_routine routine ∷ [])
-spelling (Unhook x) = codes "unhook" with (AnObject x ∷ [])
-spelling (Rename x name) = codes "rename" with (AnObject x ∷ AName name ∷ [])
-spelling (Resize x size) = codes "resize" with (AnObject x ∷ a_number size ∷ [])
-spelling (Limit x max) = codes "limit" with (AnObject x ∷ a_number max ∷ [])
-spelling (Parent x) = codes "parent" with (AnObject x ∷ [])
-spelling (Total owner) = codes "total" with (AnOwner owner ∷ [])
-spelling (Count owner) = codes "count" with (AnOwner owner ∷ [])
-spelling (Sum owner) = codes "sum" with (AnOwner owner ∷ [])
-spelling (Report owner) = codes "report" with (AnOwner owner ∷ [])
-spelling (Immediate owner) = codes "immediate" with (AnOwner owner ∷ [])
-spelling (Schedule x routine user) = codes "schedule" with (AnObject x ∷ a_routine_or_none routine ∷ a_number user ∷ [])
-spelling (Unschedule x) = codes "unschedule" with (AnObject x ∷ [])
-spelling (Timer owner time routine user) = codes "timer" with (AnOwner owner ∷ a_time time ∷ a_routine routine ∷ a_number user ∷ [])
-spelling (Fd owner fd flags routine user) = codes "fd" with (AnOwner owner ∷ a_descriptor fd ∷ some_flags flags ∷ a_routine routine ∷ a_number user ∷ [])
-spelling (Flags x flags) = codes "flags" with (AnObject x ∷ some_flags flags ∷ [])
-spelling (Getflags x) = codes "getflags" with (AnObject x ∷ [])
-spelling (Autoclose x) = codes "autoclose" with (AnObject x ∷ [])
-spelling (Close fd) = codes "close" with (a_descriptor fd ∷ [])
-spelling (Accept fd) = codes "accept" with (a_descriptor fd ∷ [])
-spelling (Read fd len) = codes "read" with (a_descriptor fd ∷ a_length len ∷ [])
-spelling (Write fd bytes) = codes "write" with (a_descriptor fd ∷ SomeBytes bytes ∷ [])
-spelling (Req owner size name) = codes "req" with (AnOwner owner ∷ a_number size ∷ AName name ∷ [])
-spelling (Callback x routine user) = codes "callback" with (AnObject x ∷ a_routine_or_none routine ∷ a_number user ∷ [])
-spelling (Defer x) = codes "defer" with (AnObject x ∷ [])
-spelling (Cleanup x routine) = codes "cleanup" with (AnObject x ∷ a_routine_or_none routine ∷ [])
-spelling (Setcancel x routine) = codes "setcancel" with (AnObject x ∷ a_routine_or_none routine ∷ [])
-spelling (Cancel x) = codes "cancel" with (AnObject x ∷ [])
-spelling (Post x) = codes "post" with (AnObject x ∷ [])
-spelling (Done x) = codes "done" with (AnObject x ∷ [])
-spelling (Error x error) = codes "error" with (AnObject x ∷ a_number error ∷ [])
-spelling (Oom x) = codes "oom" with (AnObject x ∷ [])
-spelling (Iserror x) = codes "iserror" with (AnObject x ∷ [])
-spelling (Progress x) = codes "progress" with (AnObject x ∷ [])
-spelling (Endtime x time) = codes "endtime" with (AnObject x ∷ a_time time ∷ [])
-spelling (Received x) = codes "received" with (AnObject x ∷ [])
-spelling (Queue owner name) = codes "queue" with (AnOwner owner ∷ AName name ∷ [])
-spelling (Enqueue queue x routine user) = codes "enqueue" with (AnObject queue ∷ AnObject x ∷ a_routine routine ∷ a_number user ∷ [])
-spelling (Start queue) = codes "start" with (AnObject queue ∷ [])
-spelling (Stop queue) = codes "stop" with (AnObject queue ∷ [])
-spelling (QueueLength queue) = codes "length" with (AnObject queue ∷ [])
-spelling (Running queue) = codes "running" with (AnObject queue ∷ [])
-spelling Pending = codes "pending" with []
-spelling Now = codes "now" with []
-spelling Turn = codes "turn" with []
+-- where a call says its context, it says it last; in version 1 none does
+abbrev pub in_context : Version → List Field
+in_context versions.One = []
+in_context versions.Two = TheContext ∷ []
+
+abbrev pub spelling : Version → Call → Spelling
+spelling v (New owner size name) = codes "new" with (AnOwner owner ∷ a_number size ∷ AName name ∷ [])
+spelling v (Free x) = codes "free" with (AnObject x ∷ [])
+spelling v (Freekids x) = codes "freekids" with (AnObject x ∷ [])
+spelling v (Steal owner x) = codes "steal" with (AnOwner owner ∷ AnObject x ∷ [])
+spelling v (Move owner x) = codes "move" with (AnOwner owner ∷ AnObject x ∷ [])
+spelling v (Reparent from to x) = codes "reparent" with (AnOwner from ∷ AnOwner to ∷ AnObject x ∷ [])
+spelling v (Reference owner x) = codes "reference" with (AnOwner owner ∷ AnObject x ∷ [])
+spelling v (Unlink owner x) = codes "unlink" with (AnOwner owner ∷ AnObject x ∷ [])
+spelling v (Hook x routine) = codes "hook" with (AnObject x ∷ a_routine routine ∷ [])
+spelling v (Unhook x) = codes "unhook" with (AnObject x ∷ [])
+spelling v (Rename x name) = codes "rename" with (AnObject x ∷ AName name ∷ [])
+spelling v (Resize x size) = codes "resize" with (AnObject x ∷ a_number size ∷ [])
+spelling v (Limit x max) = codes "limit" with (AnObject x ∷ a_number max ∷ [])
+spelling v (Parent x) = codes "parent" with (AnObject x ∷ [])
+spelling v (Total owner) = codes "total" with (AnOwner owner ∷ [])
+spelling v (Count owner) = codes "count" with (AnOwner owner ∷ [])
+spelling v (Sum owner) = codes "sum" with (AnOwner owner ∷ [])
+spelling v (Report owner) = codes "report" with (AnOwner owner ∷ [])
+spelling v (Immediate owner) = codes "immediate" with (AnOwner owner ∷ [])
+spelling v (Schedule x routine user) = codes "schedule" with (AnObject x ∷ a_routine_or_none routine ∷ a_number user ∷ in_context v)
+spelling v (Unschedule x) = codes "unschedule" with (AnObject x ∷ [])
+spelling v (Timer owner time routine user) = codes "timer" with (AnOwner owner ∷ a_time time ∷ a_routine routine ∷ a_number user ∷ in_context v)
+spelling v (Fd owner fd flags routine user) = codes "fd" with (AnOwner owner ∷ a_descriptor fd ∷ some_flags flags ∷ a_routine routine ∷ a_number user ∷ in_context v)
+spelling v (Flags x flags) = codes "flags" with (AnObject x ∷ some_flags flags ∷ [])
+spelling v (Getflags x) = codes "getflags" with (AnObject x ∷ [])
+spelling v (Autoclose x) = codes "autoclose" with (AnObject x ∷ [])
+spelling v (Close fd) = codes "close" with (a_descriptor fd ∷ [])
+spelling v (Accept fd) = codes "accept" with (a_descriptor fd ∷ [])
+spelling v (Read fd len) = codes "read" with (a_descriptor fd ∷ a_length len ∷ [])
+spelling v (Write fd bytes) = codes "write" with (a_descriptor fd ∷ SomeBytes bytes ∷ [])
+spelling v (Req owner size name) = codes "req" with (AnOwner owner ∷ a_number size ∷ AName name ∷ [])
+spelling v (Callback x routine user) = codes "callback" with (AnObject x ∷ a_routine_or_none routine ∷ a_number user ∷ [])
+spelling v (Defer x) = codes "defer" with (AnObject x ∷ in_context v)
+spelling v (Cleanup x routine) = codes "cleanup" with (AnObject x ∷ a_routine_or_none routine ∷ [])
+spelling v (Setcancel x routine) = codes "setcancel" with (AnObject x ∷ a_routine_or_none routine ∷ [])
+spelling v (Cancel x) = codes "cancel" with (AnObject x ∷ [])
+spelling v (Post x) = codes "post" with (AnObject x ∷ in_context v)
+spelling v (Done x) = codes "done" with (AnObject x ∷ [])
+spelling v (Error x error) = codes "error" with (AnObject x ∷ a_number error ∷ [])
+spelling v (Oom x) = codes "oom" with (AnObject x ∷ [])
+spelling v (Iserror x) = codes "iserror" with (AnObject x ∷ [])
+spelling v (Progress x) = codes "progress" with (AnObject x ∷ [])
+spelling v (Endtime x time) = codes "endtime" with (AnObject x ∷ a_time time ∷ in_context v)
+spelling v (Received x) = codes "received" with (AnObject x ∷ [])
+spelling v (Queue owner name) = codes "queue" with (AnOwner owner ∷ AName name ∷ [])
+spelling v (Enqueue queue x routine user) = codes "enqueue" with (AnObject queue ∷ AnObject x ∷ a_routine routine ∷ a_number user ∷ in_context v)
+spelling v (Start queue) = codes "start" with (AnObject queue ∷ [])
+spelling v (Stop queue) = codes "stop" with (AnObject queue ∷ [])
+spelling v (QueueLength queue) = codes "length" with (AnObject queue ∷ [])
+spelling v (Running queue) = codes "running" with (AnObject queue ∷ [])
+spelling v Pending = codes "pending" with in_context v
+spelling v Now = codes "now" with []
+spelling v Turn = codes "turn" with in_context v
 
 -- ---- reading
 
@@ -121,15 +131,19 @@ pub data Reading : Type 0 where
   TakesOwner : (Owner → Reading) → Reading
   TakesObject : (Obj → Reading) → Reading
   TakesNumeral : Numeral → (ℕ → Reading) → Reading
-  -- a name comes last, and so do bytes
+  -- a name comes last, and so do bytes, and so does a context where one is said
   EndsInName : (List ℕ → Call) → Reading
   EndsInBytes : (List ℕ → Call) → Reading
+  EndsInContext : Call → Reading
 
 abbrev pub takes_number : (ℕ → Reading) → Reading
 takes_number next = TakesNumeral Number next
 
 abbrev pub of_object : (Obj → Call) → Reading
 of_object call = TakesObject (λ x. NoMore (call x))
+
+abbrev pub object_in_context : (Obj → Call) → Reading
+object_in_context call = TakesObject (λ x. EndsInContext (call x))
 
 abbrev pub of_owner : (Owner → Call) → Reading
 of_owner call = TakesOwner (λ owner. NoMore (call owner))
@@ -181,10 +195,10 @@ tree_forms =
 abbrev pub event_forms : List Form
 event_forms =
     (codes "immediate" reads of_owner Immediate)
-    ∷ (codes "schedule" reads TakesObject (λ x. TakesNumeral Number32 (λ routine. takes_number (λ user. NoMore (Schedule x routine user)))))
+    ∷ (codes "schedule" reads TakesObject (λ x. TakesNumeral Number32 (λ routine. takes_number (λ user. EndsInContext (Schedule x routine user)))))
     ∷ (codes "unschedule" reads of_object Unschedule)
-    ∷ (codes "timer" reads TakesOwner (λ owner. TakesNumeral Time (λ time. TakesNumeral Positive32 (λ routine. takes_number (λ user. NoMore (Timer owner time routine user))))))
-    ∷ (codes "fd" reads TakesOwner (λ owner. TakesNumeral Number32 (λ fd. TakesNumeral FdFlags (λ flags. TakesNumeral Positive32 (λ routine. takes_number (λ user. NoMore (Fd owner fd flags routine user)))))))
+    ∷ (codes "timer" reads TakesOwner (λ owner. TakesNumeral Time (λ time. TakesNumeral Positive32 (λ routine. takes_number (λ user. EndsInContext (Timer owner time routine user))))))
+    ∷ (codes "fd" reads TakesOwner (λ owner. TakesNumeral Number32 (λ fd. TakesNumeral FdFlags (λ flags. TakesNumeral Positive32 (λ routine. takes_number (λ user. EndsInContext (Fd owner fd flags routine user)))))))
     ∷ (codes "flags" reads TakesObject (λ x. TakesNumeral FdFlags (λ flags. NoMore (Flags x flags))))
     ∷ (codes "getflags" reads of_object Getflags)
     ∷ (codes "autoclose" reads of_object Autoclose)
@@ -204,17 +218,17 @@ abbrev pub request_forms : List Form
 request_forms =
     (codes "req" reads TakesOwner (λ owner. takes_number (λ size. EndsInName (λ name. Req owner size name))))
     ∷ (codes "callback" reads TakesObject (λ x. TakesNumeral Number32 (λ routine. takes_number (λ user. NoMore (Callback x routine user)))))
-    ∷ (codes "defer" reads of_object Defer)
+    ∷ (codes "defer" reads object_in_context Defer)
     ∷ (codes "cleanup" reads object_and_routine Cleanup)
     ∷ (codes "setcancel" reads object_and_routine Setcancel)
     ∷ (codes "cancel" reads of_object Cancel)
-    ∷ (codes "post" reads of_object Post)
+    ∷ (codes "post" reads object_in_context Post)
     ∷ (codes "done" reads of_object Done)
     ∷ (codes "error" reads object_and_number Error)
     ∷ (codes "oom" reads of_object Oom)
     ∷ (codes "iserror" reads of_object Iserror)
     ∷ (codes "progress" reads of_object Progress)
-    ∷ (codes "endtime" reads TakesObject (λ x. TakesNumeral Time (λ time. NoMore (Endtime x time))))
+    ∷ (codes "endtime" reads TakesObject (λ x. TakesNumeral Time (λ time. EndsInContext (Endtime x time))))
     ∷ (codes "received" reads of_object Received)
     ∷ []
 
@@ -222,7 +236,7 @@ request_forms =
 abbrev pub queue_forms : List Form
 queue_forms =
     (codes "queue" reads TakesOwner (λ owner. EndsInName (λ name. Queue owner name)))
-    ∷ (codes "enqueue" reads TakesObject (λ queue. TakesObject (λ x. TakesNumeral Positive32 (λ routine. takes_number (λ user. NoMore (Enqueue queue x routine user))))))
+    ∷ (codes "enqueue" reads TakesObject (λ queue. TakesObject (λ x. TakesNumeral Positive32 (λ routine. takes_number (λ user. EndsInContext (Enqueue queue x routine user))))))
     ∷ (codes "start" reads of_object Start)
     ∷ (codes "stop" reads of_object Stop)
     ∷ (codes "length" reads of_object QueueLength)
@@ -232,9 +246,9 @@ queue_forms =
 -- calls on the loop
 abbrev pub loop_forms : List Form
 loop_forms =
-    (codes "pending" reads NoMore Pending)
+    (codes "pending" reads EndsInContext Pending)
     ∷ (codes "now" reads NoMore Now)
-    ∷ (codes "turn" reads NoMore Turn)
+    ∷ (codes "turn" reads EndsInContext Turn)
     ∷ []
 
 -- all calls

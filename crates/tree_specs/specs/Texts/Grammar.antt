@@ -1,4 +1,4 @@
--- The grammar of numbers, names, calls and schedule lines: the value that a text spells, or none.
+-- The grammar of numbers, names, calls and schedule lines, in each version: the value that a text spells, or none.
 use Rattle.std.specs.Prelude.{ℕ, ◌^◌, Bool, true, false, ◌==◌, ◌&&◌, not, nat_lt, if◌then◌else◌, List, [], ◌∷◌, Option, Some, None, Result, Ok, Err, codes}
 use Rattle.std.specs.List.{slice_split}
 use Rattle.std.specs.Option.{option_map}
@@ -13,11 +13,13 @@ use Rattle.tree_specs.specs.declared.question.Act.TheVariants as acts
 use Rattle.tree_specs.specs.declared.question.Input.{Input}
 use Rattle.tree_specs.specs.declared.question.Input.TheVariants as inputs
 use Rattle.tree_specs.specs.declared.wants.Want.{Want}
-use Rattle.tree_specs.specs.Words.Names.{is_name}
+use Rattle.tree_specs.specs.declared.schedule.Version.{Version}
+use Rattle.tree_specs.specs.declared.schedule.Version.TheVariants.{One, Two}
+use Rattle.tree_specs.specs.Words.Names.{is_name_in}
 use Rattle.tree_specs.specs.Words.Octets.{is_octets}
 use Rattle.tree_specs.specs.Calls.Spelling.{Numeral, Reading, Form, forms}
 use Rattle.tree_specs.specs.Calls.Spelling.Numeral.{Number32, Positive32, Time, Length}
-use Rattle.tree_specs.specs.Calls.Spelling.Reading.{NoMore, TakesOwner, TakesObject, TakesNumeral, EndsInName, EndsInBytes}
+use Rattle.tree_specs.specs.Calls.Spelling.Reading.{NoMore, TakesOwner, TakesObject, TakesNumeral, EndsInName, EndsInBytes, EndsInContext}
 use Rattle.tree_specs.specs.Words.Objects.{numbered_owner}
 use Rattle.tree_specs.specs.Words.Ranges.{is_in}
 use Rattle.tree_specs.specs.Words.Wants.{is_wants}
@@ -56,8 +58,14 @@ object_of text = do
   n ← number_of text
   Some (record { 0 = n })
 
-unfoldable pub name_of : List ℕ → Option (List ℕ)
-name_of text = if is_name text then Some text else None
+unfoldable pub name_of : Version → List ℕ → Option (List ℕ)
+name_of v text = if is_name_in v text then Some text else None
+
+-- the first context, which is the only one
+unfoldable pub context_of : List ℕ → Option (Unit {0})
+context_of text = do
+  n ← number_of text
+  if n == 0 then Some tt else None
 
 -- these bytes, where this is their one spelling
 abbrev pub if_spelled : List ℕ → Result (List ℕ) FromHexError → Option (List ℕ)
@@ -97,18 +105,26 @@ with_field reader words next = do
   first ← field reader words
   next first.0 first.1
 
+-- the context that a call says last; in version 1 none is said
+abbrev pub context_at : Version → List (List ℕ) → Option (Unit {0} × List (List ℕ))
+context_at One words = Some (tt, words)
+context_at Two words = field context_of words
+
 -- the call that the words begin with, by what it takes, and the words that it leaves; a name is the last word, and so are bytes
-abbrev pub taken : Reading → List (List ℕ) → Option (Call × List (List ℕ))
-taken (NoMore call) words = Some (call, words)
-taken (TakesOwner next) words = with_field owner_of words (λ owner more. taken (next owner) more)
-taken (TakesObject next) words = with_field object_of words (λ x more. taken (next x) more)
-taken (TakesNumeral kind next) words = with_field (numeral_of kind) words (λ n more. taken (next n) more)
-taken (EndsInName call) words = do
-  name ← last_field name_of words
+abbrev pub taken : Version → Reading → List (List ℕ) → Option (Call × List (List ℕ))
+taken v (NoMore call) words = Some (call, words)
+taken v (TakesOwner next) words = with_field owner_of words (λ owner more. taken v (next owner) more)
+taken v (TakesObject next) words = with_field object_of words (λ x more. taken v (next x) more)
+taken v (TakesNumeral kind next) words = with_field (numeral_of kind) words (λ n more. taken v (next n) more)
+taken v (EndsInName call) words = do
+  name ← last_field (name_of v) words
   Some (call name.0, name.1)
-taken (EndsInBytes call) words = do
+taken v (EndsInBytes call) words = do
   bytes ← last_field octets_of words
   Some (call bytes.0, bytes.1)
+taken v (EndsInContext call) words = do
+  context ← context_at v words
+  Some (call, context.1)
 
 -- what was read, where no word is left
 abbrev pub ended : {A : Type 0} → A × List (List ℕ) → Option A
@@ -116,9 +132,9 @@ ended (x, []) = Some x
 ended (x, word ∷ more) = None
 
 -- the call that all the words spell
-abbrev pub read : Reading → List (List ℕ) → Option Call
-read reading words = do
-  call ← taken reading words
+abbrev pub read : Version → Reading → List (List ℕ) → Option Call
+read v reading words = do
+  call ← taken v reading words
   ended call
 
 -- the first form with this verb
@@ -127,14 +143,14 @@ form_in [] verb = None
 form_in (f ∷ fs) verb = if bytes_eq verb f.verb then Some f.reading else form_in fs verb
 
 -- a verb and its fields
-unfoldable pub call_of_words : List (List ℕ) → Option Call
-call_of_words [] = None
-call_of_words (verb ∷ fields) = do
+unfoldable pub call_of_words : Version → List (List ℕ) → Option Call
+call_of_words v [] = None
+call_of_words v (verb ∷ fields) = do
   reading ← form_in forms verb
-  read reading fields
+  read v reading fields
 
-unfoldable pub call_of : List ℕ → Option Call
-call_of text = call_of_words (words text)
+unfoldable pub call_of : Version → List ℕ → Option Call
+call_of v text = call_of_words v (words text)
 
 -- ---- schedule lines
 
@@ -144,11 +160,11 @@ strip [] text = Some text
 strip (p ∷ ps) [] = None
 strip (p ∷ ps) (x ∷ xs) = if x == p then strip ps xs else None
 
-abbrev pub call_input_of : List ℕ → Option Input
-call_input_of text = option_map inputs.Call (call_of text)
+abbrev pub call_input_of : Version → List ℕ → Option Input
+call_input_of v text = option_map inputs.Call (call_of v text)
 
-abbrev pub act_input_of : List ℕ → Option Input
-act_input_of text = option_map (λ c. inputs.Act (acts.Do c)) (call_of text)
+abbrev pub act_input_of : Version → List ℕ → Option Input
+act_input_of v text = option_map (λ c. inputs.Act (acts.Do c)) (call_of v text)
 
 abbrev pub return_input_of : List ℕ → Option Input
 return_input_of text = option_map (λ v. inputs.Act (acts.Ret v)) (numeral_of Number32 text)
@@ -205,10 +221,10 @@ None or o = o
 (Some x) or o = Some x
 
 -- the input that a line spells, without its LF
-unfoldable pub input_of : List ℕ → Option Input
-input_of line =
-    (strip (codes "call ") line >>= call_input_of)
-    or (strip (codes "act ") line >>= act_input_of)
+unfoldable pub input_of : Version → List ℕ → Option Input
+input_of v line =
+    (strip (codes "call ") line >>= call_input_of v)
+    or (strip (codes "act ") line >>= act_input_of v)
     or (strip (codes "ret ") line >>= return_input_of)
     or (strip (codes "clock ") line >>= clock_input_of)
     or (strip (codes "ready") line >>= ready_input_of)

@@ -8,10 +8,12 @@ use Rattle.tree_specs.specs.declared.object.Owner.TheVariants.{Root}
 use Rattle.tree_specs.specs.declared.call.Call.{Call}
 use Rattle.tree_specs.specs.declared.call.Call.TheVariants.{New, Free, Steal, Reference, Unlink, Count}
 use Rattle.tree_specs.specs.declared.question.Input.TheVariants as inputs
+use Rattle.tree_specs.specs.declared.schedule.Mode.TheVariants.{Pool}
+use Rattle.tree_specs.specs.declared.schedule.Version.TheVariants.{One}
 use Rattle.tree_specs.specs.Words.Objects.{numbered_owner}
 use Rattle.tree_specs.specs.Texts.Text.{newline, input_text}
 use Rattle.tree_specs.specs.Texts.Lines.{lines}
-use Rattle.tree_specs.specs.Texts.Schedule.{pool_header}
+use Rattle.tree_specs.specs.Texts.Schedule.{header_text}
 
 -- ---- draws
 
@@ -101,11 +103,11 @@ load_calls number count = calls_from count (first_place number)
 
 -- each call as its line
 abbrev pub calls_text : List Call → List ℕ
-calls_text calls = flat_map (λ c. input_text (inputs.Call c)) calls
+calls_text calls = flat_map (λ c. input_text One (inputs.Call c)) calls
 
--- the schedule as bytes
+-- the schedule as bytes, in the first version: none of its calls says a context
 abbrev pub load_schedule : ℕ → ℕ → List ℕ
-load_schedule number count = pool_header ++ newline ++ calls_text (load_calls number count)
+load_schedule number count = header_text One Pool ++ newline ++ calls_text (load_calls number count)
 
 -- ---- what is printed of a transcript
 

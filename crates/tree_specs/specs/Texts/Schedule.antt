@@ -4,8 +4,11 @@ use Rattle.std.specs.Str.{bytes_eq}
 use Rattle.step_machine.specs.Machine.{is_stray}
 use Rattle.tree_specs.specs.declared.question.Ask.{Ask}
 use Rattle.tree_specs.specs.declared.question.Input.{Input}
+use Rattle.tree_specs.specs.declared.schedule.Header.{Header}
 use Rattle.tree_specs.specs.declared.schedule.Mode.{Mode}
 use Rattle.tree_specs.specs.declared.schedule.Mode.TheVariants.{Pool, Service}
+use Rattle.tree_specs.specs.declared.schedule.Version.{Version}
+use Rattle.tree_specs.specs.declared.schedule.Version.TheVariants.{One, Two}
 use Rattle.tree_specs.specs.declared.schedule.Reason.{Reason}
 use Rattle.tree_specs.specs.declared.schedule.Reason.TheVariants.{NotAsked}
 use Rattle.tree_specs.specs.Calls.Given.{Given, given_to}
@@ -19,17 +22,24 @@ use Rattle.tree_specs.specs.Texts.Text.{body_text}
 
 -- ---- the first line
 
-abbrev pub pool_header : List ℕ
-pool_header = codes "tv schedule 1 pool"
+-- lines in this version, and what runs them
+abbrev pub says : Version → Mode → Header
+says v mode = record { version = v; mode = mode }
 
-abbrev pub service_header : List ℕ
-service_header = codes "tv schedule 1 service"
+-- the first line of a schedule, without its LF
+abbrev pub header_text : Version → Mode → List ℕ
+header_text One Pool = codes "tv schedule 1 pool"
+header_text One Service = codes "tv schedule 1 service"
+header_text Two Pool = codes "tv schedule 2 pool"
+header_text Two Service = codes "tv schedule 2 service"
 
--- what the first line of a schedule says, without its LF
-unfoldable pub mode_of : List ℕ → Option Mode
-mode_of text =
-    if bytes_eq text pool_header then Some Pool else
-    if bytes_eq text service_header then Some Service else None
+-- what the first line of a schedule says
+unfoldable pub header_of : List ℕ → Option Header
+header_of text =
+    if bytes_eq text (header_text One Pool) then Some (says One Pool) else
+    if bytes_eq text (header_text One Service) then Some (says One Service) else
+    if bytes_eq text (header_text Two Pool) then Some (says Two Pool) else
+    if bytes_eq text (header_text Two Service) then Some (says Two Service) else None
 
 -- ---- a host, or what stands before one
 
@@ -53,22 +63,26 @@ open_question (i ∷ j ∷ rest) = open_question (j ∷ rest)
 abbrev pub course_by : (List Input → List Item) → (List Input → Bool) → Course Input
 course_by tells strays = record { open_after = λ is. open_question (tells is); strays = strays }
 
--- what tells these items over inputs, the last of which may not fit
-abbrev pub runner_by : (List Input → List Item) → (List Input → Bool) → Runner Input
-runner_by tells strays = record { reads = input_of; misfit = misfit; course = course_by tells strays; told = λ is. body_text (tells is) }
+-- what reads lines in this version, and tells these items over inputs, the last of which may not fit
+abbrev pub runner_by : Version → (List Input → List Item) → (List Input → Bool) → Runner Input
+runner_by v tells strays = record { reads = input_of v; misfit = misfit; course = course_by tells strays; told = λ is. body_text (tells is) }
 
 -- a host whose first object gets the number 1
-abbrev pub pool_runner : Runner Input
-pool_runner = runner_by (λ is. items (story 1 is)) (λ is. is_stray (outcome 1 is))
+abbrev pub pool_runner : Version → Runner Input
+pool_runner v = runner_by v (λ is. items (story 1 is)) (λ is. is_stray (outcome 1 is))
 
 -- ---- schedules of hosts alone
 
-abbrev pub hosts_alone : Option Mode → Option (Runner Input)
-hosts_alone (Some Pool) = Some pool_runner
-hosts_alone mode = None
+abbrev pub host_in : Version → Mode → Option (Runner Input)
+host_in v Pool = Some (pool_runner v)
+host_in v Service = None
+
+abbrev pub hosts_alone : Option Header → Option (Runner Input)
+hosts_alone (Some h) = host_in h.version h.mode
+hosts_alone None = None
 
 abbrev pub pools : List ℕ → Option (Runner Input)
-pools header = hosts_alone (mode_of header)
+pools header = hosts_alone (header_of header)
 
 abbrev pub judged : List ℕ → Judged Input
 judged bytes = judged_lines pools (lines bytes)

@@ -21,9 +21,10 @@ use Rattle.tree_specs.specs.declared.question.Act.TheVariants as acts
 use Rattle.tree_specs.specs.declared.question.Input.{Input}
 use Rattle.tree_specs.specs.declared.question.Input.TheVariants as inputs
 use Rattle.tree_specs.specs.declared.wants.Want.{Want}
+use Rattle.tree_specs.specs.declared.schedule.Version.{Version}
 use Rattle.tree_specs.specs.Words.Objects.{owner_number}
 use Rattle.tree_specs.specs.Calls.Spelling.{Field, spelling}
-use Rattle.tree_specs.specs.Calls.Spelling.Field.{AnOwner, AnObject, ANumeral, AName, SomeBytes}
+use Rattle.tree_specs.specs.Calls.Spelling.Field.{AnOwner, AnObject, ANumeral, AName, SomeBytes, TheContext}
 use Rattle.tree_specs.specs.Rules.Items.{Item}
 use Rattle.tree_specs.specs.Rules.Items.Item.{Told, Asked}
 
@@ -36,10 +37,11 @@ field_text (AnObject x) = decimal x.0
 field_text (ANumeral kind n) = decimal n
 field_text (AName name) = name
 field_text (SomeBytes bytes) = encode_lower bytes
+field_text TheContext = decimal 0
 
 -- the verb and the fields, with single spaces between them
-unfoldable pub call_text : Call → List ℕ
-call_text c = (spelling c).verb ++ flat_map (λ f. codes " " ++ field_text f) (spelling c).fields
+unfoldable pub call_text : Version → Call → List ℕ
+call_text v c = (spelling v c).verb ++ flat_map (λ f. codes " " ++ field_text f) (spelling v c).fields
 
 -- a descriptor and its flags, with a space before them
 abbrev pub want_text : Want → List ℕ
@@ -49,18 +51,18 @@ abbrev pub wants_text : List Want → List ℕ
 wants_text ws = flat_map (λ w. want_text w) ws
 
 -- an input as its line
-unfoldable pub input_text : Input → List ℕ
-input_text (inputs.Call c) = codes "call " ++ call_text c ++ newline
-input_text (inputs.Act (acts.Do c)) = codes "act " ++ call_text c ++ newline
-input_text (inputs.Act (acts.Ret value)) = codes "ret " ++ decimal value ++ newline
-input_text (inputs.Clock now) = codes "clock " ++ decimal now ++ newline
-input_text (inputs.Ready wants) = codes "ready" ++ wants_text wants ++ newline
-input_text (inputs.Took fd) = codes "took " ++ decimal fd ++ newline
-input_text inputs.Again = codes "again\n"
-input_text inputs.Fault = codes "fault\n"
-input_text (inputs.Got bytes) = codes "got " ++ encode_lower bytes ++ newline
-input_text inputs.End = codes "end\n"
-input_text (inputs.Wrote n) = codes "wrote " ++ decimal n ++ newline
+unfoldable pub input_text : Version → Input → List ℕ
+input_text v (inputs.Call c) = codes "call " ++ call_text v c ++ newline
+input_text v (inputs.Act (acts.Do c)) = codes "act " ++ call_text v c ++ newline
+input_text v (inputs.Act (acts.Ret value)) = codes "ret " ++ decimal value ++ newline
+input_text v (inputs.Clock now) = codes "clock " ++ decimal now ++ newline
+input_text v (inputs.Ready wants) = codes "ready" ++ wants_text wants ++ newline
+input_text v (inputs.Took fd) = codes "took " ++ decimal fd ++ newline
+input_text v inputs.Again = codes "again\n"
+input_text v inputs.Fault = codes "fault\n"
+input_text v (inputs.Got bytes) = codes "got " ++ encode_lower bytes ++ newline
+input_text v inputs.End = codes "end\n"
+input_text v (inputs.Wrote n) = codes "wrote " ++ decimal n ++ newline
 
 -- ---- events
 

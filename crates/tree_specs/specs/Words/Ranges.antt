@@ -1,4 +1,4 @@
--- Inputs whose numbers have the ranges of their fields.
+-- Inputs whose numbers have the ranges of their fields, and whose names are no longer than a version of the schedules has them.
 use Rattle.std.specs.Prelude.{ℕ, ◌^◌, Bool, true, ◌&&◌, nat_lt, nat_le, List, [], ◌∷◌}
 use Rattle.tree_specs.specs.declared.bounds.TheConstants.{TIME_LIMIT, OCTETS_LIMIT}
 use Rattle.tree_specs.specs.declared.object.Owner.{Owner}
@@ -8,12 +8,14 @@ use Rattle.tree_specs.specs.declared.question.Act.{Act}
 use Rattle.tree_specs.specs.declared.question.Act.TheVariants as acts
 use Rattle.tree_specs.specs.declared.question.Input.{Input}
 use Rattle.tree_specs.specs.declared.question.Input.TheVariants as inputs
-use Rattle.tree_specs.specs.Words.Names.{is_name}
+use Rattle.tree_specs.specs.declared.schedule.Version.{Version}
+use Rattle.tree_specs.specs.declared.schedule.Version.TheVariants.{One, Two}
+use Rattle.tree_specs.specs.Words.Names.{is_name_in}
 use Rattle.tree_specs.specs.Words.Octets.{is_octets}
 use Rattle.tree_specs.specs.Words.Wants.{is_wants}
 use Rattle.tree_specs.specs.Calls.Spelling.{Numeral, Field, spelling}
 use Rattle.tree_specs.specs.Calls.Spelling.Numeral.{Number, Number32, Positive32, Time, FdFlags, Length}
-use Rattle.tree_specs.specs.Calls.Spelling.Field.{AnOwner, AnObject, ANumeral, AName, SomeBytes}
+use Rattle.tree_specs.specs.Calls.Spelling.Field.{AnOwner, AnObject, ANumeral, AName, SomeBytes, TheContext}
 
 abbrev pub is_number : ℕ → Bool
 is_number n = nat_lt n (2 ^ 64)
@@ -51,33 +53,46 @@ abbrev pub is_sound_owner : Owner → Bool
 is_sound_owner Root = true
 is_sound_owner (Of x) = nat_lt 0 x.0 && is_number x.0
 
-abbrev pub is_sound_field : Field → Bool
-is_sound_field (AnOwner o) = is_sound_owner o
-is_sound_field (AnObject x) = is_number x.0
-is_sound_field (ANumeral kind n) = is_in kind n
-is_sound_field (AName name) = is_name name
-is_sound_field (SomeBytes bytes) = is_octets bytes
+abbrev pub is_sound_field : Version → Field → Bool
+is_sound_field v (AnOwner o) = is_sound_owner o
+is_sound_field v (AnObject x) = is_number x.0
+is_sound_field v (ANumeral kind n) = is_in kind n
+is_sound_field v (AName name) = is_name_in v name
+is_sound_field v (SomeBytes bytes) = is_octets bytes
+is_sound_field v TheContext = true
 
-abbrev pub all_sound : List Field → Bool
-all_sound [] = true
-all_sound (f ∷ []) = is_sound_field f
-all_sound (f ∷ g ∷ fs) = is_sound_field f && all_sound (g ∷ fs)
+abbrev pub all_sound : Version → List Field → Bool
+all_sound v [] = true
+all_sound v (f ∷ []) = is_sound_field v f
+all_sound v (f ∷ g ∷ fs) = is_sound_field v f && all_sound v (g ∷ fs)
+
+-- the context of a call is always sound, so it makes no difference whether it is said
+abbrev pub is_sound_call_in : Version → Call → Bool
+is_sound_call_in v c = all_sound v (spelling One c).fields
+
+abbrev pub is_sound_act_in : Version → Act → Bool
+is_sound_act_in v (acts.Do call) = is_sound_call_in v call
+is_sound_act_in v (acts.Ret value) = is_return value
+
+abbrev pub is_sound_in : Version → Input → Bool
+is_sound_in v (inputs.Call call) = is_sound_call_in v call
+is_sound_in v (inputs.Act act) = is_sound_act_in v act
+is_sound_in v (inputs.Clock now) = is_time now
+is_sound_in v (inputs.Ready wants) = is_wants wants
+is_sound_in v (inputs.Took fd) = is_routine fd
+is_sound_in v inputs.Again = true
+is_sound_in v inputs.Fault = true
+is_sound_in v (inputs.Got bytes) = is_octets bytes
+is_sound_in v inputs.End = true
+is_sound_in v (inputs.Wrote n) = is_length n
+
+-- ---- what is sound in the newest version, and so can be given at all
 
 abbrev pub is_sound_call : Call → Bool
-is_sound_call c = all_sound (spelling c).fields
+is_sound_call c = is_sound_call_in Two c
 
 abbrev pub is_sound_act : Act → Bool
-is_sound_act (acts.Do call) = is_sound_call call
-is_sound_act (acts.Ret value) = is_return value
+is_sound_act act = is_sound_act_in Two act
 
 abbrev pub is_sound : Input → Bool
-is_sound (inputs.Call call) = is_sound_call call
-is_sound (inputs.Act act) = is_sound_act act
-is_sound (inputs.Clock now) = is_time now
-is_sound (inputs.Ready wants) = is_wants wants
-is_sound (inputs.Took fd) = is_routine fd
-is_sound inputs.Again = true
-is_sound inputs.Fault = true
-is_sound (inputs.Got bytes) = is_octets bytes
-is_sound inputs.End = true
-is_sound (inputs.Wrote n) = is_length n
+is_sound i = is_sound_in Two i

@@ -65,3 +65,7 @@ returns-clause-option_for_path c = refl
 pub returns-clause-word_after_answers : goal.returns-clause-word_after_answers
 unfolding clap_on_literals
 returns-clause-word_after_answers c = refl
+
+pub returns-clause-convert_to_a_version : goal.returns-clause-convert_to_a_version
+unfolding clap_on_literals
+returns-clause-convert_to_a_version c = refl

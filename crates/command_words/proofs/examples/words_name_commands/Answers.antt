@@ -29,3 +29,7 @@ returns-clause-serve c = refl
 pub returns-clause-most_answers : goal.returns-clause-most_answers
 unfolding clap_on_literals
 returns-clause-most_answers c = refl
+
+pub returns-clause-convert : goal.returns-clause-convert
+unfolding clap_on_literals
+returns-clause-convert c = refl

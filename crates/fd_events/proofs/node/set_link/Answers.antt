@@ -3,7 +3,7 @@ use Rattle.std.specs.Option.{option_map}
 use Rattle.pool_arena.specs.Arena.{get}
 use Rattle.pool_arena.proofs.Steps.{mapped-at, len-old}
 use Rattle.linked_lanes.specs.Chain.{noted}
-use Rattle.fd_events.specs.Linked.{sides_of, watching}
+use Rattle.fd_events.specs.Linked.{sides_of, stamp_of, watching}
 use Rattle.fd_events.proofs.Nodes.{with_link, read-changed, read-same}
 use Rattle.fd_events.proofs.node.set_link.Goals as goal
 
@@ -11,6 +11,11 @@ pub returns-in-Some-get_mut-clause-sides : goal.returns-in-Some-get_mut-clause-s
 returns-in-Some-get_mut-clause-sides c = λ q. rw (c.in-Some.is, c.note.ensures)
     (ap (option_map sides_of) (mapped-at c.args.nodes.now c.in-Some.x (with_link c.args.link) c.in-Some-get_mut.node.now c.in-Some-get_mut.ensures.value q)
     ∙ read-changed sides_of (with_link c.args.link) (noted c.args.link) (λ v. refl) (nat_eq c.in-Some.x q) (get c.args.nodes.now q))
+
+pub returns-in-Some-get_mut-clause-stamps : goal.returns-in-Some-get_mut-clause-stamps
+returns-in-Some-get_mut-clause-stamps c = λ q. rw c.note.ensures
+    (ap (option_map stamp_of) (mapped-at c.args.nodes.now c.in-Some.x (with_link c.args.link) c.in-Some-get_mut.node.now c.in-Some-get_mut.ensures.value q)
+    ∙ read-same stamp_of (with_link c.args.link) (λ v. refl) (nat_eq c.in-Some.x q) (get c.args.nodes.now q))
 
 pub returns-in-Some-get_mut-clause-watches : goal.returns-in-Some-get_mut-clause-watches
 returns-in-Some-get_mut-clause-watches c = λ q. rw c.note.ensures

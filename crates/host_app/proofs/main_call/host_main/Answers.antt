@@ -1,5 +1,5 @@
 use Rattle.std.proofs.Common.{rules, arith, ℕ, ◌≡◌, ◌∙◌, ap, subst, sym, Some, None, Ok, inr}
-use Rattle.command_words.specs.CommandLine.Asked.{Audit, Load, Replay, Serve}
+use Rattle.command_words.specs.CommandLine.Asked.{Audit, Convert, Load, Replay, Serve}
 use Rattle.command_words.specs.declared.command.Command.{Command}
 use Rattle.audit_rules.specs.Flaws.{flaw}
 use Rattle.serving.specs.Stations.{ends}
@@ -7,14 +7,17 @@ use Rattle.host_app.specs.Mains.{names, Loads, Says}
 use Rattle.host_app.specs.Serves.{Serves}
 use Rattle.host_app.specs.Statuses.{status_text}
 use Rattle.host_app.proofs.AuditLaws.{none-ends}
-use Rattle.host_app.proofs.MainLaws.{Accepted, asked-once, audit-none, kept-front, load-none, loads-by, loads-same, memory-complete, replay-complete, replay-front, says-by, serves-by, serves-none, serves-same}
+use Rattle.host_app.proofs.MainLaws.{Accepted, Shaped, asked-once, audit-none, converts-by, converts-none, converts-same, kept-front, load-none, loads-by, loads-same, memory-complete, run-complete, replay-front, says-by, serves-by, serves-none, serves-same}
 use Rattle.host_app.proofs.main_call.host_main.Goals as goal
-use Rattle.host_app.proofs.main_call.host_main.Goals.{in-Ok-Replay, in-Ok-Audit, in-Ok-Serve, in-Ok-Load, in-Err-Usage, in-Err-Memory}
+use Rattle.host_app.proofs.main_call.host_main.Goals.{in-Ok-Replay, in-Ok-Convert, in-Ok-Audit, in-Ok-Serve, in-Ok-Load, in-Err-Usage, in-Err-Memory}
 
 pub returns-clause-memory_front : goal.returns-clause-memory_front
 returns-clause-memory_front g c = λ named memory. elim c.match-read_words.branch [
   | in-Ok-Replay w ↦ rw w.out-is (replay-front (g.S.Source.left c.args.input.now) (g.S.Source.left w.replay.new.input) (g.K.Sink.held c.args.out.now) (g.K.Sink.held w.replay.new.out) w.replay.result c.match-read_words.status
       (w.status-is ∙ w.from-status.ensures) w.replay.ensures.replays memory)
+  | in-Ok-Convert w ↦
+      let is : names c.args.words.now ≡ Some Convert = search rules in
+      asked-once _ _ _ is named (λ e. cc)
   | in-Ok-Audit w ↦
       let is : names c.args.words.now ≡ Some Audit = search rules in
       asked-once _ _ _ is named (λ e. cc)
@@ -32,6 +35,9 @@ pub returns-clause-loads : goal.returns-clause-loads
 returns-clause-loads g c = λ number count named. elim c.match-read_words.branch [
   | in-Ok-Replay w ↦
       let is : names c.args.words.now ≡ Some Replay = search rules in
+      asked-once _ _ _ is named (λ e. cc)
+  | in-Ok-Convert w ↦
+      let is : names c.args.words.now ≡ Some Convert = search rules in
       asked-once _ _ _ is named (λ e. cc)
   | in-Ok-Audit w ↦
       let is : names c.args.words.now ≡ Some Audit = search rules in
@@ -54,6 +60,9 @@ pub returns-clause-serves : goal.returns-clause-serves
 returns-clause-serves g c = λ path answers named. elim c.match-read_words.branch [
   | in-Ok-Replay w ↦
       let is : names c.args.words.now ≡ Some Replay = search rules in
+      asked-once _ _ _ is named (λ e. cc)
+  | in-Ok-Convert w ↦
+      let is : names c.args.words.now ≡ Some Convert = search rules in
       asked-once _ _ _ is named (λ e. cc)
   | in-Ok-Audit w ↦
       let is : names c.args.words.now ≡ Some Audit = search rules in
@@ -86,8 +95,11 @@ returns-clause-complete g c = λ named.
     let reads = g.S.Source.faults in
     let writes = g.K.Sink.faults in
     elim c.match-read_words.branch [
-      | in-Ok-Replay w ↦ rw (w.input-is, w.out-is) (replay-complete left (reads c.args.input.now) (reads w.replay.new.input) (writes c.args.out.now) (writes w.replay.new.out) w.replay.result c.match-read_words.status
+      | in-Ok-Replay w ↦ rw (w.input-is, w.out-is) (run-complete Accepted left (reads c.args.input.now) (reads w.replay.new.input) (writes c.args.out.now) (writes w.replay.new.out) w.replay.result c.match-read_words.status
           (w.status-is ∙ w.from-status.ensures) w.replay.ensures.complete)
+      | in-Ok-Convert w ↦
+          let is : names c.args.words.now ≡ Some Convert = search rules in
+          asked-once _ _ _ is named (λ e. cc)
       | in-Ok-Audit w ↦
           let is : names c.args.words.now ≡ Some Audit = search rules in
           asked-once _ _ _ is named (λ e. cc)
@@ -114,6 +126,7 @@ returns-clause-said g c = λ other.
     says-by (held c.match-read_words.err) (held c.say.new.err) (room c.match-read_words.err) (room c.say.new.err) (faults c.match-read_words.err) (faults c.say.new.err) c.say.result text e.bytes e.cause e.room in
     elim c.match-read_words.branch [
       | in-Ok-Replay w ↦ rw w.err-is at said
+      | in-Ok-Convert w ↦ rw w.err-is at said
       | in-Ok-Audit w ↦ rw w.err-is at said
       | in-Ok-Serve w ↦ rw w.err-is at said
       | in-Ok-Load w ↦ rw w.err-is at said
@@ -128,6 +141,9 @@ returns-clause-audit_memory g c = λ named memory.
     elim c.match-read_words.branch [
       | in-Ok-Replay w ↦
           let is : names c.args.words.now ≡ Some Replay = search rules in
+          asked-once _ _ _ is named (λ e. cc)
+      | in-Ok-Convert w ↦
+          let is : names c.args.words.now ≡ Some Convert = search rules in
           asked-once _ _ _ is named (λ e. cc)
       | in-Ok-Audit w ↦ rw w.out-is (w.audit_transcript-status.ensures.memory_front (sym w.status-is ∙ memory))
       | in-Ok-Serve w ↦
@@ -149,6 +165,9 @@ returns-clause-audit_complete g c = λ named.
       | in-Ok-Replay w ↦
           let is : names c.args.words.now ≡ Some Replay = search rules in
           asked-once _ _ _ is named (λ e. cc)
+      | in-Ok-Convert w ↦
+          let is : names c.args.words.now ≡ Some Convert = search rules in
+          asked-once _ _ _ is named (λ e. cc)
       | in-Ok-Audit w ↦ rw (w.input-is, w.out-is, w.status-is) w.audit_transcript-status.ensures.complete
       | in-Ok-Serve w ↦
           let is : names c.args.words.now ≡ Some (Serve w.in-Ok-Serve.path.now w.in-Ok-Serve.answers) = search rules in
@@ -169,6 +188,9 @@ returns-clause-audit_flawed g c = λ named.
       | in-Ok-Replay w ↦
           let is : names c.args.words.now ≡ Some Replay = search rules in
           asked-once _ _ _ is named (λ e. cc)
+      | in-Ok-Convert w ↦
+          let is : names c.args.words.now ≡ Some Convert = search rules in
+          asked-once _ _ _ is named (λ e. cc)
       | in-Ok-Audit w ↦ rw (w.input-is, w.status-is) w.audit_transcript-status.ensures.flawed
       | in-Ok-Serve w ↦
           let is : names c.args.words.now ≡ Some (Serve w.in-Ok-Serve.path.now w.in-Ok-Serve.answers) = search rules in
@@ -180,4 +202,59 @@ returns-clause-audit_flawed g c = λ named.
           let none : names c.args.words.now ≡ None = search rules in
           asked-once _ _ _ none named (λ e. cc)
       | in-Err-Memory w ↦ none-ends left _ _ _ (λ line rule. inr w.status-is)
+    ]
+
+pub returns-clause-converts : goal.returns-clause-converts
+returns-clause-converts g c = λ named.
+    let left = g.S.Source.left in
+    let held = g.K.Sink.held in
+    elim c.match-read_words.branch [
+      | in-Ok-Replay w ↦
+          let is : names c.args.words.now ≡ Some Replay = search rules in
+          asked-once _ _ _ is named (λ e. cc)
+      | in-Ok-Convert w ↦ rw (w.input-is, w.out-is) (converts-by (left c.args.input.now) (left w.convert.new.input) (held c.args.out.now) (held w.convert.new.out) w.convert.result c.match-read_words.status
+          (w.status-is ∙ w.from-status-in-Ok-Convert.ensures) w.convert.ensures.converts)
+      | in-Ok-Audit w ↦
+          let is : names c.args.words.now ≡ Some Audit = search rules in
+          asked-once _ _ _ is named (λ e. cc)
+      | in-Ok-Serve w ↦
+          let is : names c.args.words.now ≡ Some (Serve w.in-Ok-Serve.path.now w.in-Ok-Serve.answers) = search rules in
+          asked-once _ _ _ is named (λ e. cc)
+      | in-Ok-Load w ↦
+          let is : names c.args.words.now ≡ Some (Load w.in-Ok-Load.number w.in-Ok-Load.count) = search rules in
+          asked-once _ _ _ is named (λ e. cc)
+      | in-Err-Usage w ↦
+          let none : names c.args.words.now ≡ None = search rules in
+          asked-once _ _ _ none named (λ e. cc)
+      | in-Err-Memory w ↦ converts-none (left c.args.input.now) _ (held c.args.out.now) (held c.match-read_words.out) c.match-read_words.status (ap held w.out-is) w.status-is
+    ]
+
+pub returns-clause-converts_same : goal.returns-clause-converts_same
+returns-clause-converts_same g c = λ named done.
+    converts-same (g.S.Source.left c.args.input.now) _ (g.K.Sink.held c.args.out.now) _ c.match-read_words.status (returns-clause-converts g c named) done
+
+pub returns-clause-converts_complete : goal.returns-clause-converts_complete
+returns-clause-converts_complete g c = λ named.
+    let left = g.S.Source.left c.args.input.now in
+    let reads = g.S.Source.faults in
+    let writes = g.K.Sink.faults in
+    elim c.match-read_words.branch [
+      | in-Ok-Replay w ↦
+          let is : names c.args.words.now ≡ Some Replay = search rules in
+          asked-once _ _ _ is named (λ e. cc)
+      | in-Ok-Convert w ↦ rw (w.input-is, w.out-is) (run-complete Shaped left (reads c.args.input.now) (reads w.convert.new.input) (writes c.args.out.now) (writes w.convert.new.out) w.convert.result c.match-read_words.status
+          (w.status-is ∙ w.from-status-in-Ok-Convert.ensures) w.convert.ensures.complete)
+      | in-Ok-Audit w ↦
+          let is : names c.args.words.now ≡ Some Audit = search rules in
+          asked-once _ _ _ is named (λ e. cc)
+      | in-Ok-Serve w ↦
+          let is : names c.args.words.now ≡ Some (Serve w.in-Ok-Serve.path.now w.in-Ok-Serve.answers) = search rules in
+          asked-once _ _ _ is named (λ e. cc)
+      | in-Ok-Load w ↦
+          let is : names c.args.words.now ≡ Some (Load w.in-Ok-Load.number w.in-Ok-Load.count) = search rules in
+          asked-once _ _ _ is named (λ e. cc)
+      | in-Err-Usage w ↦
+          let none : names c.args.words.now ≡ None = search rules in
+          asked-once _ _ _ none named (λ e. cc)
+      | in-Err-Memory w ↦ memory-complete Shaped left (reads c.args.input.now) (reads c.match-read_words.input) (writes c.args.out.now) (writes c.match-read_words.out) c.match-read_words.status w.status-is
     ]

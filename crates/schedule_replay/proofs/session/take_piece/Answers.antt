@@ -8,7 +8,7 @@ pub runs-init : goal.runs-init
 runs-init g c = record {
   ready = c.requires.ready;
   empty = c.requires.empty;
-  passed = some-none (reading_of c.args.reader.now) c.args.piece.now (g.K.Sink.held c.args.out.now);
+  passed = some-none g.P.Player.plays (reading_of c.args.reader.now) c.args.piece.now (g.K.Sink.held c.args.out.now);
   progress = omega arith;
   writes = omega arith;
 }
@@ -17,7 +17,7 @@ pub runs-preserved : goal.runs-preserved
 runs-preserved g c = record {
   ready = c.in_ok-rest.ensures.ready;
   empty = c.in_ok-rest.ensures.empty;
-  passed = some-more (reading_of c.args.reader.now) (reading_of c.runs.reader) (reading_of c.take_run.new.reader) c.args.piece.now c.runs.rest.now c.in_ok-rest.rest.now _ _ _
+  passed = some-more g.P.Player.plays (reading_of c.args.reader.now) (reading_of c.runs.reader) (reading_of c.take_run.new.reader) c.args.piece.now c.runs.rest.now c.in_ok-rest.rest.now _ _ _
       c.runs.invariant.passed c.in_ok-rest.ensures.passed;
   progress = omega (arith, c.in_ok-rest.ensures.progress, c.runs.invariant.progress);
   writes = omega (arith, c.in_ok-rest.ensures.cause.later, c.runs.invariant.writes);
@@ -26,5 +26,5 @@ runs-preserved g c = record {
 pub returns-in_err-rest-clause-passed : goal.returns-in_err-rest-clause-passed
 returns-in_err-rest-clause-passed g c =
     let p = err_from_is_err_and c.from_residual.result c.from_residual.ensures.1 in
-    rw (p.1, p.2) (some-error (reading_of c.args.reader.now) (reading_of c.runs.reader) (reading_of c.take_run.new.reader) c.args.piece.now c.runs.rest.now _ _ _ c.in_err-rest.field-0.0
+    rw (p.1, p.2) (some-error g.P.Player.plays (reading_of c.args.reader.now) (reading_of c.runs.reader) (reading_of c.take_run.new.reader) c.args.piece.now c.runs.rest.now _ _ _ c.in_err-rest.field-0.0
     c.runs.invariant.passed c.in_err-rest.ensures.passed)

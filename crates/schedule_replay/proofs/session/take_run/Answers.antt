@@ -7,7 +7,7 @@ use Rattle.schedule_replay.proofs.session.take_run.Goals as goal
 pub returns-in_err-put_text-clause-passed : goal.returns-in_err-put_text-clause-passed
 returns-in_err-put_text-clause-passed g c =
     let p = err_from_is_err_and c.from_residual.result c.from_residual.ensures.1 in
-    rw (p.1, p.2) (passes-cut (reading_of c.args.reader.now) (reading_of c.feed_until_full-taken.new.self) _ c.args.piece.now _ _ c.feed_until_full-taken.result c.in_err-put_text.field-0.0 c.in_err-put_text.ensures.bytes c.feed_until_full-taken.ensures.taken)
+    rw (p.1, p.2) (passes-cut g.P.Player.plays g.P.Player.text_in (reading_of c.args.reader.now) (reading_of c.feed_until_full-taken.new.self) _ c.args.piece.now _ _ c.feed_until_full-taken.result c.in_err-put_text.field-0.0 c.in_err-put_text.ensures.bytes c.feed_until_full-taken.ensures.taken c.in_err-put_text.ensures.front)
 
 pub returns-in_err-taken-clause-cause : goal.returns-in_err-taken-clause-cause
 returns-in_err-taken-clause-cause g c =

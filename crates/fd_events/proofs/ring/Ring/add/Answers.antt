@@ -21,7 +21,7 @@ free : (c : goal.After-join) → is_watched (watches_in c.self.inside.lane) c.ar
 free c = ap (λ (r : Rotation). is_watched r.watches c.args.fd) c.self.view_is ∙ c.requires.free
 
 abbrev node : goal.After-join → Node
-node c = record { fd = c.args.fd; flags = c.args.flags; closes = false; sides = record { newer = None; older = None } }
+node c = record { fd = c.args.fd; flags = c.args.flags; closes = false; sides = record { newer = None; older = None }; stamp = 0 }
 
 added : (c : goal.After-join) → Keeps c.join.new.self (map.get c.add.new.self.pairs) (c.args.x.0 ∷ numbers_in c.self.inside.lane) (watched (watches_in c.self.inside.lane) c.args.x c.args.fd c.args.flags)
 added c =

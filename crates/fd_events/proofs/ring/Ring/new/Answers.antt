@@ -12,7 +12,7 @@ use Rattle.fd_events.proofs.ring.Ring.new.Goals as goal
 
 begun : (l : Lane) (h : map.FinMap nat_cmp ℕ) → l.nodes.pairs ≡ map.empty → l.newest ≡ None → l.oldest ≡ None → h ≡ map.empty → Keeps l (map.get h) [] []
 begun l h nodes newest oldest holders = record {
-  lane = record { distinct = tt; chain = record { at_head = newest; sides = λ q m. not_both m refl }; at_last = oldest };
+  lane = record { distinct = tt; chain = record { at_head = newest; sides = λ q m. not_both m refl }; at_last = oldest; stamps = λ b. tt };
   held = λ q. ap (λ n. is_some (option_map (watching q) (map.get n q))) nodes ∙ ap (λ o. is_some (option_map (watching q) o)) (get-empty nat_cmp q);
   count = ap (λ m. map.len m) nodes ∙ len-empty nat_cmp Node;
   list = refl;

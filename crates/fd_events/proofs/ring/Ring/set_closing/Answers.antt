@@ -8,7 +8,7 @@ use Rattle.fd_events.proofs.ring.Ring.set_closing.Goals as goal
 
 changed : (c : goal.After-set_closing) → Keeps (record c.self.inside.lane { nodes = c.set_closing.new.nodes }) (map.get c.self.inside.holders.pairs) (numbers_in c.self.inside.lane) (rewatched (closing) (watches_in c.self.inside.lane) c.args.x)
 changed c =
-    keeps-changed c.self.inside.lane _ _ _ (linked-keeps _ c.self.inside.holders.pairs c.self.invariant) c.args.x.0 c.set_closing.new.nodes (with_closing) (closing) (λ v. refl) (λ q v. refl) (λ w. refl) (λ w. refl)
+    keeps-changed c.self.inside.lane _ _ _ (linked-keeps _ c.self.inside.holders.pairs c.self.invariant) c.args.x.0 c.set_closing.new.nodes (with_closing) (closing) (λ v. refl) (λ v. refl) (λ q v. refl) (λ w. refl) (λ w. refl)
     c.set_closing.ensures.nodes c.set_closing.ensures.len
 
 pub invariant_of-self : goal.invariant_of-self

@@ -8,7 +8,7 @@ use Rattle.fd_events.proofs.ring.Ring.set_flags.Goals as goal
 
 changed : (c : goal.After-set_flags) → Keeps (record c.self.inside.lane { nodes = c.set_flags.new.nodes }) (map.get c.self.inside.holders.pairs) (numbers_in c.self.inside.lane) (rewatched (flagged c.args.flags) (watches_in c.self.inside.lane) c.args.x)
 changed c =
-    keeps-changed c.self.inside.lane _ _ _ (linked-keeps _ c.self.inside.holders.pairs c.self.invariant) c.args.x.0 c.set_flags.new.nodes (with_flags c.args.flags) (flagged c.args.flags) (λ v. refl) (λ q v. refl) (λ w. refl) (λ w. refl)
+    keeps-changed c.self.inside.lane _ _ _ (linked-keeps _ c.self.inside.holders.pairs c.self.invariant) c.args.x.0 c.set_flags.new.nodes (with_flags c.args.flags) (flagged c.args.flags) (λ v. refl) (λ v. refl) (λ q v. refl) (λ w. refl) (λ w. refl)
     c.set_flags.ensures.nodes c.set_flags.ensures.len
 
 pub invariant_of-self : goal.invariant_of-self

@@ -6,7 +6,7 @@ use Rattle.schedule_replay.proofs.play.Play.refuse_limit.Goals as goal
 
 pub returns : goal.returns
 returns g c = λ line rest over.
-    let reads = g.M.Machine.reads in
+    let reads = g.M.Machine.reads c.args.self.now.version in
     let misfit = g.M.Machine.misfit in
     let s = g.M.Machine.standing c.args.self.now.machine in
     let n = c.args.number in
