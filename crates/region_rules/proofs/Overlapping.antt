@@ -1,8 +1,7 @@
 -- No two places of a region overlap, and all lie within its bytes: each event keeps it so.
-use Rattle.std.proofs.Common.{◌≡◌, ℕ, ◌+◌, ◌≤◌, List, [], ◌∷◌, Option, Some, None, Bool, true, false, nat_eq, not, refl, sym, ◌∙◌, ap, subst, arith, cond}
-use Rattle.std.specs.Prelude.{max, nat_lt, nat_le, if◌then◌else◌}
+use Rattle.std.proofs.Common.{◌≡◌, ℕ, ◌+◌, ◌≤◌, List, [], ◌∷◌, Option, Some, None, Bool, true, false, nat_eq, not, refl, arith, cond}
+use Rattle.std.specs.Prelude.{max, nat_lt, if◌then◌else◌}
 use Rattle.std.proofs.lemmas.Bool.{and_parts, leb-true}
-use Rattle.std.specs.List.{filter}
 use Rattle.std.specs.Ordering.{nat_cmp, eq_by_cmp}
 use Rattle.std.specs.FinMap.Entries.{find, put, by_order}
 use Rattle.std.specs.declared.cmp.Ordering.{Ordering}
@@ -11,13 +10,12 @@ use Rattle.tree_specs.specs.declared.event.Event.{Event}
 use Rattle.tree_specs.specs.declared.event.Event.TheVariants as event
 use Rattle.tree_specs.specs.declared.reply.Reply.{Reply as ReplyData}
 use Rattle.tree_specs.specs.declared.reply.Reply.TheVariants as reply
-use Rattle.region_rules.specs.declared.added.Added.TheVariants.{Outside}
 use Rattle.region_rules.specs.declared.awaited.Awaited.{Awaited}
 use Rattle.region_rules.specs.declared.awaited.Awaited.TheVariants as awaited
 use Rattle.region_rules.specs.declared.place.Place.{Place}
-use Rattle.region_rules.specs.Places.{end_of, top_of, without_place, next_place, gets_place, AreApart, LieWithin}
+use Rattle.region_rules.specs.Places.{end_of, top_of, without_place, next_place, gets_place, AreApart}
 use Rattle.region_rules.specs.Within.{Lies, AllLie}
-use Rattle.region_rules.specs.Regions.{Region, Regions, region_at, home_of, answered, placed_if, made_in, new_region, returned_if, settled, settled_by, left, left_by, then_tells, object, outgrown, place_in, grown_in, replied_to, gone_from, row_gone, freed_region, with_region, with_places, without, without_home, gone, after_event}
+use Rattle.region_rules.specs.Regions.{Region, Regions, region_at, home_of, answered, placed_if, made_in, new_region, region_made, is_awaited, is_over, returned_if, settled, left, left_by, outside_if, is_outgrown, place_in, grown_in, replied_to, gone_from, marked, marked_by, freed_region, with_region, with_places, without, without_region, without_home, gone, after_event}
 
 abbrev pub LiesIf : Option Region → Type 0
 LiesIf None = Unit {0}
@@ -78,16 +76,11 @@ more-lies r n room f l =
 -- ---- events
 
 settled-lies : (d : Regions) (r : ℕ) → AllLie d.held → AllLie (settled d r).0.held
-settled-lies d r a = each (region_at d r)
+settled-lies d r a = each (is_over (region_at d r))
   where
-    over : (freed : Bool) (ps : List Place) → AllLie (returned_if d r freed ps).0.held
-    over true [] = without-lies r d.held a
-    over true (p ∷ ps) = a
-    over false ps = a
-
-    each : (o : Option Region) → AllLie (settled_by d r o).0.held
-    each None = a
-    each (Some region) = over region.freed region.places
+    each : (b : Bool) → AllLie (returned_if b d r).0.held
+    each true = without-lies r d.held a
+    each false = a
 
 left-lies : (d : Regions) (r x : ℕ) → AllLie d.held → AllLie (left d r x).held
 left-lies d r x a = each (region_at d r) (found-lies r d.held a)
@@ -106,31 +99,34 @@ made-lies d r n room (Some region) l a = each (gets_place region.bytes region.pl
 
 grown-lies : (d : Regions) (x room : ℕ) (o : Option ℕ) → AllLie d.held → AllLie (grown_in d x room o).0.held
 grown-lies d x room None a = a
-grown-lies d x room (Some r) a = each (place_in (region_at d r) x)
+grown-lies d x room (Some r) a = each (is_outgrown (place_in (region_at d r) x) room)
   where
-    each : (o : Option Place) → AllLie (outgrown d r x room o).0.held
-    each None = a
-    each (Some p) = go (nat_lt p.room room)
-      where
-        go : (b : Bool) → AllLie (if b then then_tells (Outside (object x) (object r) ∷ []) (settled (left d r x) r) else (d, [])).0.held
-        go true = settled-lies (left d r x) r (left-lies d r x a)
-        go false = a
+    each : (b : Bool) → AllLie (outside_if b d r x).0.held
+    each true = settled-lies (left d r x) r (left-lies d r x a)
+    each false = a
+
+region-lies : (d : Regions) (n bytes : ℕ) → AllLie d.held → AllLie (region_made d n bytes).held
+region-lies d n bytes a = each (is_awaited n d.awaited)
+  where
+    each : (b : Bool) → AllLie (if b then d else with_region n (new_region bytes) d).held
+    each true = a
+    each false = put-lies n (new_region bytes) d.held (tt, omega arith) a
 
 replied-lies : (d : Regions) (waiting : List Awaited) (r : ReplyData) → AllLie d.held → AllLie (replied_to d waiting r).0.held
 replied-lies d (awaited.Object x room ∷ more) (reply.Number n) a = made-lies d x.0 n room (region_at d x.0) (found-lies x.0 d.held a) a
-replied-lies d (awaited.Region bytes ∷ more) (reply.Number n) a = put-lies n (new_region bytes) d.held (tt, omega arith) a
+replied-lies d (awaited.Region bytes ∷ more) (reply.Number n) a = region-lies d n bytes a
 replied-lies d (awaited.Size x room ∷ more) reply.Ok a = grown-lies d x.0 room (home_of d x.0) a
 replied-lies d more r a = a
 
 gone-lies : (d : Regions) (x : ℕ) → AllLie d.held → AllLie (gone d x).0.held
 gone-lies d x a = each (home_of d x)
   where
-    row : (o : Option Region) → LiesIf o → AllLie (row_gone d x o).0.held
-    row None l = a
-    row (Some region) l = settled-lies (with_region x (freed_region region) d) x (put-lies x (freed_region region) d.held l a)
+    marked-lies : (o : Option Region) → LiesIf o → AllLie (marked_by d x o).held
+    marked-lies None l = a
+    marked-lies (Some region) l = put-lies x (freed_region region) d.held l a
 
     each : (o : Option ℕ) → AllLie (gone_from d x o).0.held
-    each None = row (region_at d x) (found-lies x d.held a)
+    each None = settled-lies (marked d x) x (marked-lies (region_at d x) (found-lies x d.held a))
     each (Some r) = settled-lies (left d r x) r (left-lies d r x a)
 
 pub event-lies : (d : Regions) (e : Event) → AllLie d.held → AllLie (after_event d e).0.held

@@ -1,24 +1,22 @@
 -- Over the tree's own table: without what was added, the story of a host with regions is a host's story.
 use std.Path.{fun_ext}
-use Rattle.std.proofs.Common.{◌≡◌, ℕ, suc, ◌≤◌, List, [], ◌∷◌, length, map, Option, Some, None, refl, sym, ◌∙◌, ap, subst, arith}
+use Rattle.std.proofs.Common.{◌≡◌, suc, ◌≤◌, List, [], ◌∷◌, length, Option, Some, None, refl, sym, ◌∙◌, ap, arith}
 use Rattle.step_machine.specs.Machine.{Move as Do}
-use Rattle.machine_driver.specs.Driver.{Kind, Story, filled, shown, shown_of, items_or_none}
+use Rattle.machine_driver.specs.Driver.{Story, filled, shown, shown_of, items_or_none}
 use Rattle.machine_driver.specs.Driver.Kind.{Event as AnEvent, Question as AQuestion}
-use Rattle.machine_driver.specs.Seen.{sight, seen_move, item_of}
+use Rattle.machine_driver.specs.Seen.{sight, seen_move}
 use Rattle.machine_driver.proofs.Telling.{TakesOr, ToldBy, TellsStories}
 use Rattle.tree_specs.specs.declared.event.Event.{Event}
 use Rattle.tree_specs.specs.declared.question.Input.{Input}
 use Rattle.tree_specs.specs.declared.frame.Frame.{Frame}
-use Rattle.tree_specs.specs.declared.frame.Frame.TheVariants as frame
-use Rattle.tree_specs.specs.declared.frame.Answer.{Answer}
 use Rattle.tree_specs.specs.Tree.Pool.{Pool}
 use Rattle.tree_specs.specs.Rules.Items.{Item}
 use Rattle.tree_specs.specs.Rules.Items.Item.{Told, Asked}
 use Rattle.tree_specs.specs.Rules.Story.{story, items}
 use Rattle.tree_specs.specs.Machine.Table.{Step, step, taken}
-use Rattle.tree_specs.specs.Machine.View.{View, begin, rest_of}
+use Rattle.tree_specs.specs.Machine.View.{begin}
 use Rattle.tree_specs.proofs.Rules.StoryLaws.{begin-whole, story-items}
-use Rattle.tree_stories.specs.Sights.{Sight, Opening, seen_table, sights_of, story_seen}
+use Rattle.tree_stories.specs.Sights.{Sight, Opening, seen_table, sights_of}
 use Rattle.tree_stories.proofs.Stories.{IsWhole, tale, tells}
 use Rattle.tree_stories.proofs.Seeing.{seen-items, begin-seen}
 use Rattle.region_rules.specs.declared.pool_input.PoolInput.{PoolInput}

@@ -5,7 +5,7 @@ use Rattle.std.specs.Prelude.{nat_lt, if◌then◌else◌}
 use Rattle.step_machine.specs.Machine.{Move, Table, leads, walk}
 use Rattle.step_machine.specs.Machine.Move.{Done, Go, Emit, Wait, Call}
 use Rattle.step_machine.proofs.Ends.{NotShort}
-use Rattle.machine_driver.specs.Driver.{Kind, Given, Story, tail, later, answered, with_first, filled, through, at_item, answer, from_outside, passed_on, shown, shown_item, shown_question, shown_after}
+use Rattle.machine_driver.specs.Driver.{Given, Story, tail, later, answered, with_first, filled, through, at_item, from_outside, passed_on, shown, shown_item, shown_question, shown_after}
 use Rattle.machine_driver.specs.Driver.Kind.{Event as AnEvent, Question as AQuestion}
 use Rattle.machine_driver.specs.Driver.Given.{Pass, Reply, Misfit}
 use Rattle.machine_driver.proofs.Telling.{GoesOn, Tells, TakesOr, ToldBy, TellsStories, not-short-told}
@@ -22,7 +22,7 @@ use Rattle.tree_specs.specs.Calls.Refusals.{size_limit}
 use Rattle.tree_specs.specs.Tree.Pool.{Pool}
 use Rattle.tree_stories.specs.Sights.{Sight, Opening}
 use Rattle.region_rules.specs.declared.added.Added.{Added}
-use Rattle.region_rules.specs.declared.added.Added.TheVariants.{Outside, Replied}
+use Rattle.region_rules.specs.declared.added.Added.TheVariants.{Replied}
 use Rattle.region_rules.specs.declared.added.Answer.{Answer}
 use Rattle.region_rules.specs.declared.awaited.Awaited.{Awaited}
 use Rattle.region_rules.specs.declared.awaited.Awaited.TheVariants as awaited
@@ -30,8 +30,8 @@ use Rattle.region_rules.specs.declared.place.Place.{Place}
 use Rattle.region_rules.specs.declared.pool_input.PoolInput.{PoolInput}
 use Rattle.region_rules.specs.declared.pool_input.PoolInput.TheVariants as given
 use Rattle.region_rules.specs.Places.{gets_place}
-use Rattle.region_rules.specs.Regions.{Region, Regions, Outcome, object, region_at, home_of, answered as regions_answered, placed_if, made_in, returned_if, settled, settled_by, left, then_tells, outgrown, place_in, grown_in, replied_to, gone_from, row_gone, freed_region, with_region, gone, after_event}
-use Rattle.region_rules.specs.Pooling.{pooling, kind_of, heard, at_rest, elsewhere, region_given, answers}
+use Rattle.region_rules.specs.Regions.{Region, Regions, region_at, home_of, answered as regions_answered, placed_if, made_in, is_over, returned_if, settled, left, outside_if, is_outgrown, place_in, grown_in, replied_to, gone_from, marked, gone, after_event}
+use Rattle.region_rules.specs.Pooling.{pooling, kind_of, heard, elsewhere, answers}
 use Rattle.region_rules.specs.Seen.{Seen, extras, host_items}
 use Rattle.region_rules.specs.Seen.Seen.{Passed, Extra}
 
@@ -41,16 +41,11 @@ abbrev pub IsLeftOut : List Added → Type 0
 IsLeftOut added = (us : List Seen) → host_items (extras added ++ us) ≡ host_items us
 
 settled-left : (d : Regions) (r : ℕ) → IsLeftOut (settled d r).1
-settled-left d r = each (region_at d r)
+settled-left d r us = each (is_over (region_at d r))
   where
-    over : (freed : Bool) (ps : List Place) → IsLeftOut (returned_if d r freed ps).1
-    over true [] us = refl
-    over true (p ∷ ps) us = refl
-    over false ps us = refl
-
-    each : (o : Option Region) → IsLeftOut (settled_by d r o).1
-    each None = λ us. refl
-    each (Some region) = over region.freed region.places
+    each : (b : Bool) → host_items (extras (returned_if b d r).1 ++ us) ≡ host_items us
+    each true = refl
+    each false = refl
 
 made-left : (d : Regions) (r n room : ℕ) (o : Option Region) → IsLeftOut (made_in d r n room o).1
 made-left d r n room None = λ us. refl
@@ -61,16 +56,12 @@ made-left d r n room (Some region) = each (gets_place region.bytes region.places
     each false us = refl
 
 grown-left : (d : Regions) (x room : ℕ) (o : Option ℕ) → IsLeftOut (grown_in d x room o).1
-grown-left d x room None = λ us. refl
-grown-left d x room (Some r) = each (place_in (region_at d r) x)
+grown-left d x room None us = refl
+grown-left d x room (Some r) us = each (is_outgrown (place_in (region_at d r) x) room)
   where
-    each : (o : Option Place) → IsLeftOut (outgrown d r x room o).1
-    each None = λ us. refl
-    each (Some p) = λ us. go us (nat_lt p.room room)
-      where
-        go : (us : List Seen) (b : Bool) → host_items (extras (if b then then_tells (Outside (object x) (object r) ∷ []) (settled (left d r x) r) else (d, [])).1 ++ us) ≡ host_items us
-        go us true = settled-left (left d r x) r us
-        go us false = refl
+    each : (b : Bool) → host_items (extras (outside_if b d r x).1 ++ us) ≡ host_items us
+    each true = settled-left (left d r x) r us
+    each false = refl
 
 replied-left : (d : Regions) (waiting : List Awaited) (r : ReplyData) → IsLeftOut (replied_to d waiting r).1
 replied-left d (awaited.Object x room ∷ more) (reply.Number n) = made-left d x.0 n room (region_at d x.0)
@@ -81,12 +72,8 @@ replied-left d more r = λ us. refl
 gone-left : (d : Regions) (x : ℕ) → IsLeftOut (gone d x).1
 gone-left d x = each (home_of d x)
   where
-    row : (o : Option Region) → IsLeftOut (row_gone d x o).1
-    row None = λ us. refl
-    row (Some region) = settled-left (with_region x (freed_region region) d) x
-
     each : (o : Option ℕ) → IsLeftOut (gone_from d x o).1
-    each None = row (region_at d x)
+    each None = settled-left (marked d x) x
     each (Some r) = settled-left (left d r x) r
 
 event-left : (d : Regions) (e : Event) → IsLeftOut (after_event d e).1

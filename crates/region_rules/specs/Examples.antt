@@ -1,5 +1,5 @@
 -- Worked examples of regions: a table of the lines of a schedule and of what they give.
-use Rattle.std.specs.Prelude.{ℕ, List, [], ◌∷◌, ◌++◌, map, Option}
+use Rattle.std.specs.Prelude.{ℕ, List, [], ◌∷◌, map, Option}
 use Prim.Native.String.{String}
 use Rattle.tree_specs.specs.declared.schedule.Reason.{Reason}
 use Rattle.tree_specs.specs.Examples.Exchanges.{Example, text_of, wanted}

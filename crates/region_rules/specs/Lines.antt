@@ -4,7 +4,7 @@ use Rattle.std.specs.Option.{option_map}
 use Rattle.tree_specs.specs.declared.reply.Reply.{Reply}
 use Rattle.tree_specs.specs.declared.reply.Reply.TheVariants as reply
 use Rattle.tree_specs.specs.declared.schedule.Version.TheVariants.{Two}
-use Rattle.tree_specs.specs.Rules.Items.Item.{Told, Asked}
+use Rattle.tree_specs.specs.Rules.Items.Item.{Asked}
 use Rattle.tree_specs.specs.Texts.Grammar.{words, strip, owner_of, object_of, name_of, number_of, input_of, ◌>>=◌, ◌or◌}
 use Rattle.tree_specs.specs.Texts.Text.{newline, numbers_text, item_text, end_text, reply_text}
 use Rattle.region_rules.specs.declared.added.Added.{Added}

@@ -1,5 +1,5 @@
 -- Places in a region, one behind the other, the newest first.
-use Rattle.std.specs.Prelude.{ℕ, ◌+◌, ◌*◌, ◌/◌, ◌≤◌, max, Bool, not, ◌&&◌, nat_eq, nat_le, List, [], ◌∷◌, Option, Some, None, is_none, if◌then◌else◌}
+use Rattle.std.specs.Prelude.{ℕ, ◌+◌, ◌*◌, ◌/◌, ◌≤◌, max, Bool, true, false, not, ◌&&◌, nat_eq, nat_le, List, [], ◌∷◌, Option, Some, None, is_none, if◌then◌else◌}
 use Rattle.std.specs.List.{filter}
 use Rattle.tree_specs.specs.declared.bounds.TheConstants.{OVERHEAD}
 use Rattle.region_rules.specs.declared.bounds.TheConstants.{ALIGNMENT}
@@ -20,6 +20,11 @@ top_of (p ∷ ps) = max (end_of p) (top_of ps)
 abbrev pub place_of : List Place → ℕ → Option Place
 place_of [] x = None
 place_of (p ∷ ps) x = if nat_eq p.object x then Some p else place_of ps x
+
+-- no object has a place
+abbrev pub is_vacant : List Place → Bool
+is_vacant [] = true
+is_vacant (p ∷ ps) = false
 
 abbrev pub without_place : List Place → ℕ → List Place
 without_place ps x = filter (λ p. not (nat_eq p.object x)) ps

@@ -1,5 +1,5 @@
 -- Regions as a driver of the tree machine: it answers no question itself, hears each event and adds to it.
-use Rattle.std.specs.Prelude.{ℕ, suc, ◌-◌, Bool, true, false, nat_lt, List, [], ◌∷◌, ◌++◌, length, Option, Some, None, if◌then◌else◌}
+use Rattle.std.specs.Prelude.{ℕ, suc, ◌-◌, nat_lt, List, [], ◌∷◌, length, Option, Some, None, if◌then◌else◌}
 use Rattle.machine_driver.specs.Driver.{Driver, Kind, Given, Story, filled}
 use Rattle.machine_driver.specs.Driver.Kind.{Event as AnEvent, Question as AQuestion}
 use Rattle.machine_driver.specs.Driver.Given.{Pass, Reply, Misfit}

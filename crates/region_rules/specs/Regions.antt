@@ -1,5 +1,5 @@
 -- What is known of regions, and what comes of an event (talloc_pool).
-use Rattle.std.specs.Prelude.{ℕ, ◌-◌, ◌++◌, Bool, true, false, not, nat_lt, nat_eq, List, [], ◌∷◌, is_some, Option, Some, None, if◌then◌else◌}
+use Rattle.std.specs.Prelude.{ℕ, ◌++◌, Bool, true, false, not, ◌&&◌, ◌||◌, nat_lt, nat_eq, List, [], ◌∷◌, is_some, Option, Some, None, if◌then◌else◌}
 use Rattle.std.specs.List.{filter}
 use Rattle.std.specs.Ordering.{nat_cmp, eq_by_cmp}
 use Rattle.std.specs.FinMap.Entries.{find, put}
@@ -18,7 +18,7 @@ use Rattle.region_rules.specs.declared.added.Added.TheVariants.{Placed, Outside,
 use Rattle.region_rules.specs.declared.awaited.Awaited.{Awaited}
 use Rattle.region_rules.specs.declared.awaited.Awaited.TheVariants as awaited
 use Rattle.region_rules.specs.declared.place.Place.{Place}
-use Rattle.region_rules.specs.Places.{room_of, place_of, without_place, next_place, gets_place}
+use Rattle.region_rules.specs.Places.{room_of, place_of, is_vacant, without_place, next_place, gets_place}
 
 pub record Region : Type 0 where
   pub bytes : ℕ
@@ -111,17 +111,18 @@ abbrev pub made_in : Regions → ℕ → ℕ → ℕ → Option Region → Outco
 made_in d r n room None = (d, [])
 made_in d r n room (Some region) = placed_if (gets_place region.bytes region.places n room) d r n region room
 
--- a region whose row is no more and that has no place is given back
-abbrev pub returned_if : Regions → ℕ → Bool → List Place → Outcome
-returned_if d r true [] = (without_region r d, Returned (object r) ∷ [])
-returned_if d r freed places = (d, [])
+-- its row is no more, and no object has a place in it
+abbrev pub is_over : Option Region → Bool
+is_over None = false
+is_over (Some region) = region.freed && is_vacant region.places
 
-abbrev pub settled_by : Regions → ℕ → Option Region → Outcome
-settled_by d r None = (d, [])
-settled_by d r (Some region) = returned_if d r region.freed region.places
+abbrev pub returned_if : Bool → Regions → ℕ → Outcome
+returned_if true d r = (without_region r d, Returned (object r) ∷ [])
+returned_if false d r = (d, [])
 
+-- a region that is over is given back
 abbrev pub settled : Regions → ℕ → Outcome
-settled d r = settled_by d r (region_at d r)
+settled d r = returned_if (is_over (region_at d r)) d r
 
 abbrev pub left_by : Regions → ℕ → ℕ → Option Region → Regions
 left_by d r x None = without_home x d
@@ -134,18 +135,21 @@ left d r x = left_by d r x (region_at d r)
 abbrev pub then_tells : List Added → Outcome → Outcome
 then_tells first o = (o.0, first ++ o.1)
 
-abbrev pub outgrown : Regions → ℕ → ℕ → ℕ → Option Place → Outcome
-outgrown d r x room None = (d, [])
-outgrown d r x room (Some p) =
-    if nat_lt p.room room then then_tells (Outside (object x) (object r) ∷ []) (settled (left d r x) r) else (d, [])
-
 abbrev pub place_in : Option Region → ℕ → Option Place
 place_in None x = None
 place_in (Some region) x = place_of region.places x
 
+abbrev pub is_outgrown : Option Place → ℕ → Bool
+is_outgrown None room = false
+is_outgrown (Some p) room = nat_lt p.room room
+
+abbrev pub outside_if : Bool → Regions → ℕ → ℕ → Outcome
+outside_if true d r x = then_tells (Outside (object x) (object r) ∷ []) (settled (left d r x) r)
+outside_if false d r x = (d, [])
+
 abbrev pub grown_in : Regions → ℕ → ℕ → Option ℕ → Outcome
 grown_in d x room None = (d, [])
-grown_in d x room (Some r) = outgrown d r x room (place_in (region_at d r) x)
+grown_in d x room (Some r) = outside_if (is_outgrown (place_in (region_at d r) x) room) d r x
 
 -- an object has got a size that takes so many bytes
 abbrev pub grown : Regions → ℕ → ℕ → Outcome
@@ -153,21 +157,38 @@ grown d x room = grown_in d x room (home_of d x)
 
 -- ---- events
 
+abbrev pub is_for : ℕ → Awaited → Bool
+is_for r (awaited.Object x room) = nat_eq x.0 r
+is_for r a = false
+
+-- whether an open call makes an object that is to get a place in this region
+abbrev pub is_awaited : ℕ → List Awaited → Bool
+is_awaited r [] = false
+is_awaited r (a ∷ more) = is_for r a || is_awaited r more
+
+-- a region was made; no number is given twice, so that no open call makes an object below it
+abbrev pub region_made : Regions → ℕ → ℕ → Regions
+region_made d n bytes = if is_awaited n d.awaited then d else with_region n (new_region bytes) d
+
 abbrev pub replied_to : Regions → List Awaited → Reply → Outcome
 replied_to d (awaited.Object r room ∷ more) (reply.Number n) = made_in d r.0 n room (region_at d r.0)
-replied_to d (awaited.Region bytes ∷ more) (reply.Number n) = (with_region n (new_region bytes) d, [])
+replied_to d (awaited.Region bytes ∷ more) (reply.Number n) = (region_made d n bytes, [])
 replied_to d (awaited.Size x room ∷ more) reply.Ok = grown d x.0 room
 replied_to d more r = (d, [])
 
 abbrev pub place_gone : Regions → ℕ → ℕ → Outcome
 place_gone d x r = settled (left d r x) r
 
-abbrev pub row_gone : Regions → ℕ → Option Region → Outcome
-row_gone d x None = (d, [])
-row_gone d x (Some region) = settled (with_region x (freed_region region) d) x
+abbrev pub marked_by : Regions → ℕ → Option Region → Regions
+marked_by d x None = d
+marked_by d x (Some region) = with_region x (freed_region region) d
+
+-- the row of a region is no more
+abbrev pub marked : Regions → ℕ → Regions
+marked d x = marked_by d x (region_at d x)
 
 abbrev pub gone_from : Regions → ℕ → Option ℕ → Outcome
-gone_from d x None = row_gone d x (region_at d x)
+gone_from d x None = settled (marked d x) x
 gone_from d x (Some r) = place_gone d x r
 
 -- a row is no more, which has a place, or is a region's, or neither

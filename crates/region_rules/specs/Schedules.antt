@@ -7,7 +7,7 @@ use Rattle.tree_specs.specs.declared.question.Ask.TheVariants.{Quiet}
 use Rattle.tree_specs.specs.declared.question.Input.{Input}
 use Rattle.tree_specs.specs.declared.schedule.Reason.{Reason}
 use Rattle.tree_specs.specs.declared.schedule.Reason.TheVariants.{NotAsked}
-use Rattle.tree_specs.specs.Rules.Items.Item.{Told, Asked}
+use Rattle.tree_specs.specs.Rules.Items.Item.{Asked}
 use Rattle.tree_specs.specs.Rules.Story.{outcome}
 use Rattle.tree_specs.specs.Texts.Lines.{lines}
 use Rattle.tree_specs.specs.Texts.Runners.{Course, Runner, Judged, judged_lines, transcript_lines}
@@ -17,7 +17,7 @@ use Rattle.region_rules.specs.declared.pool_input.PoolInput.TheVariants as given
 use Rattle.region_rules.specs.Lines.{pool_input_of, seen_body}
 use Rattle.region_rules.specs.Pooling.{host_inputs, regions_story}
 use Rattle.region_rules.specs.Seen.{Seen}
-use Rattle.region_rules.specs.Seen.Seen.{Passed, Extra}
+use Rattle.region_rules.specs.Seen.Seen.{Passed}
 
 -- the first line of a schedule, without its LF
 abbrev pub regions_header : List ℕ
