@@ -5,6 +5,7 @@
 mod extras;
 mod held;
 mod known;
+mod open_calls;
 mod places;
 mod room;
 
