@@ -1,5 +1,5 @@
 -- The regions that are held, listed from the map that keeps them.
-use Rattle.std.proofs.Common.{◌≡◌, ℕ, List, [], ◌∷◌, Bool, true, false, Option, Some, None, map, not, refl, sym, ◌∙◌, ap, cond}
+use Rattle.std.proofs.Common.{◌≡◌, ℕ, List, [], ◌∷◌, Bool, true, false, Option, Some, None, map, nat_eq, not, refl, sym, ◌∙◌, ap, cond}
 use Rattle.std.specs.List.{filter}
 use Rattle.std.specs.Option.{option_map}
 use Rattle.std.specs.Ordering.{nat_cmp, eq_by_cmp}
@@ -8,6 +8,8 @@ use Rattle.std.specs.declared.cmp.Ordering.TheVariants.{Less, Equal, Greater}
 use Rattle.std.specs.FinMap as finite
 use Rattle.std.specs.FinMap.{FinMap}
 use Rattle.std.specs.FinMap.Entries.{find, put, by_order}
+use Rattle.std.proofs.lemmas.Bool.{eqb-true}
+use Rattle.pool_arena.proofs.Keeps.{by_test, get-with_entry, same_pairs}
 use Rattle.pool_arena.proofs.NumberMaps as numbers
 use Rattle.known_regions.specs.declared.held.Held.{Held}
 use Rattle.known_regions.specs.Kept.{region_in, regions_in}
@@ -44,6 +46,10 @@ module _ {V W : Type 0} (f : V → W) where
       here true h = ap (λ l. (e.0, f e.1) ∷ l) h
       here false h = h
 
+-- to keep what is kept already changes nothing
+insert_held : {V : Type 0} (m : FinMap nat_cmp V) (n : ℕ) (v : V) → finite.get m n ≡ Some v → finite.insert m n v ≡ m
+insert_held m n v at = same_pairs (finite.insert m n v) m (λ q. get-with_entry m n (Some v) q ∙ by_test (nat_eq n q) (λ t. rw t (sym at ∙ ap (finite.get m) (eqb-true n q t))) (λ t. rw t refl))
+
 -- ---- regions
 
 pub found_region : (m : FinMap nat_cmp Held) (n : ℕ) → find nat_cmp n (regions_in (finite.entries m)) ≡ option_map region_in (finite.get m n)
@@ -54,3 +60,9 @@ put_region m n h = ap regions_in (numbers.put_listed m n h) ∙ put-each region_
 
 pub removed_region : (m : FinMap nat_cmp Held) (n : ℕ) → regions_in (finite.entries (finite.remove m n)) ≡ without n (regions_in (finite.entries m))
 removed_region m n = ap regions_in (numbers.removed_listed m n) ∙ removed-each region_in n (finite.entries m)
+
+-- a region is written that is seen as before
+pub same_region : (m : FinMap nat_cmp Held) (n : ℕ) (h h' : Held) → finite.get m n ≡ Some h → region_in h' ≡ region_in h → regions_in (finite.entries (finite.insert m n h')) ≡ regions_in (finite.entries m)
+same_region m n h h' at same =
+    put_region m n h' ∙ ap (λ r. put nat_cmp n r (regions_in (finite.entries m))) same ∙ sym (put_region m n h)
+    ∙ ap (λ z. regions_in (finite.entries z)) (insert_held m n h at)

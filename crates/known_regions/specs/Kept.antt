@@ -75,7 +75,7 @@ AreSound (a ∷ more) = IsSound a × AreSound more
 
 -- what is known then, and what is told besides
 abbrev pub Comes : Places → Places → List Added → (Regions → Outcome) → Type 0
-Comes old new added outcome = (open_calls : List Awaited) → (regions_of new open_calls ≡ (outcome (regions_of old open_calls)).0) × (added ≡ (outcome (regions_of old open_calls)).1)
+Comes old new added outcome = (open_calls : List Awaited) → outcome (regions_of old open_calls) ≡ (regions_of new open_calls, added)
 
 -- only this of what is known changes
 abbrev pub Becomes : Places → Places → (Regions → Regions) → Type 0

@@ -17,6 +17,13 @@ fn is_for(awaited: Awaited, region: u64) -> bool
     }
 }
 
+/// Whether one of these calls does.
+fn is_awaited(calls: &[Awaited], region: u64) -> bool
+    ensures { result ≡ is_awaited region calls.now }
+{
+    calls.iter().any(|awaited| is_for(*awaited, region))
+}
+
 /// What the replies to the open calls mean. Contracts see the list of it, the innermost call first, and room: so many more
 /// calls fit without taking memory.
 #[derive(Drop)]
@@ -84,9 +91,6 @@ impl OpenCalls {
     pub fn awaits(&self, region: u64) -> bool
         ensures { result ≡ is_awaited region self.now.calls }
     {
-        self.calls
-            .iter()
-            .find(|awaited| is_for(**awaited, region))
-            .is_some()
+        is_awaited(&self.calls, region)
     }
 }

@@ -1,11 +1,11 @@
 //! The regions that are held, and in which of them each object has its place.
-ghost use Rattle.std.specs.Prelude.{ℕ, ◌≡◌, ◌≤◌, ◌<◌, ◌+◌, ◌∷◌, [], None, OnOk, List, length, slice_get};
+ghost use Rattle.std.specs.Prelude.{ℕ, ◌≡◌, ◌≤◌, ◌<◌, ◌+◌, ◌∷◌, [], None, OnOk, List, length, is_some};
 ghost use Rattle.std.specs.FinMap as map;
 ghost use Rattle.tree_specs.specs.Calls.Refusals.{size_limit};
 ghost use Rattle.region_rules.specs.declared.awaited.Awaited.{Awaited as AwaitedData};
 ghost use Rattle.region_rules.specs.declared.awaited.Awaited.TheVariants as awaits;
 ghost use Rattle.region_rules.specs.Pooling.{space_in, where_in, where_is};
-ghost use Rattle.region_rules.specs.Regions.{gone, grown, home_of, is_outgrown, is_over, left, made_in, marked, new_region, place_in, region_at, region_of, settled, with_region};
+ghost use Rattle.region_rules.specs.Regions.{gone, grown, home_of, is_outgrown, is_over, left, made_in, marked, new_region, outside_if, place_in, region_at, region_below, region_of, settled, with_region};
 ghost use Rattle.known_regions.specs.Extras.{two};
 ghost use Rattle.known_regions.specs.Kept.{regions_of, wanted_in, Becomes, Comes, HasPlaces, HasRoom, KeepsRoom, UsesRoom};
 
@@ -61,11 +61,28 @@ impl Places {
         }
     }
 
+    /// Whether a region is held.
+    fn holds(&self, n: u64) -> bool
+        ensures { (open_calls : List AwaitedData) → result ≡ is_some (region_at (regions_of self.now open_calls) n) }
+    {
+        self.held.get(n).is_some()
+    }
+
     /// The region in which an object has its place.
     fn home(&self, x: u64) -> Option<u64>
         ensures { (open_calls : List AwaitedData) → result ≡ home_of (regions_of self.now open_calls) x }
     {
         self.homes.get(x).copied()
+    }
+
+    /// The region in which what is made below an object gets its place.
+    fn region_below(&self, n: u64) -> Option<u64>
+        ensures { (open_calls : List AwaitedData) → result ≡ region_below (regions_of self.now open_calls) n }
+    {
+        if self.holds(n) {
+            return Some(n);
+        }
+        self.home(n)
     }
 
     /// The region in which what is made below an owner gets its place.
@@ -74,8 +91,7 @@ impl Places {
     {
         match owner {
             Owner::Root => None,
-            Owner::Of(x) if self.held.get(x.0).is_some() => Some(x.0),
-            Owner::Of(x) => self.home(x.0),
+            Owner::Of(x) => self.region_below(x.0),
         }
     }
 
@@ -206,14 +222,11 @@ impl Places {
         }
     }
 
-    /// An object has got a size that takes so many bytes: it leaves a place that is smaller.
-    pub fn grow(&mut self, x: u64, room: u64) -> Extras
-        ensures comes { Comes self.old self.new result (λ d. grown d x room) }
+    /// An object leaves its place in a region where this is smaller.
+    fn leave_outgrown(&mut self, region: u64, x: u64, room: u64) -> Extras
+        ensures comes { Comes self.old self.new result (λ d. outside_if (is_outgrown (place_in (region_at d region) x) room) d region x) }
         ensures room { KeepsRoom self.old self.new }
     {
-        let Some(region) = self.home(x) else {
-            return Extras::none();
-        };
         if !self.is_outgrown(region, x, room) {
             return Extras::none();
         }
@@ -225,22 +238,32 @@ impl Places {
         Extras::first(outside, self.settle(region))
     }
 
+    /// An object has got a size that takes so many bytes: it leaves a place that is smaller.
+    pub fn grow(&mut self, x: u64, room: u64) -> Extras
+        ensures comes { Comes self.old self.new result (λ d. grown d x room) }
+        ensures room { KeepsRoom self.old self.new }
+    {
+        match self.home(x) {
+            Some(region) => self.leave_outgrown(region, x, room),
+            None => Extras::none(),
+        }
+    }
+
     /// An object is no more: its place goes, or what it was is a region that is no object any more, or neither.
     pub fn end(&mut self, x: u64) -> Extras
         ensures comes { Comes self.old self.new result (λ d. gone d x) }
         ensures room { KeepsRoom self.old self.new }
     {
-        let over = match self.home(x) {
+        match self.home(x) {
             Some(region) => {
                 self.leave(region, x);
-                self.settle(region)
+                Extras::at_most_one(self.settle(region))
             }
             None => {
                 self.mark(x);
-                self.settle(x)
+                Extras::at_most_one(self.settle(x))
             }
-        };
-        Extras::at_most_one(over)
+        }
     }
 
     /// Where an object has its place in this region.

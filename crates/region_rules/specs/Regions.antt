@@ -1,6 +1,6 @@
 -- What is known of regions, and what comes of an event (talloc_pool).
-use Rattle.std.specs.Prelude.{ℕ, ◌++◌, Bool, true, false, not, ◌&&◌, ◌||◌, nat_lt, nat_eq, List, [], ◌∷◌, is_some, Option, Some, None, if◌then◌else◌}
-use Rattle.std.specs.List.{filter}
+use Rattle.std.specs.Prelude.{ℕ, ◌++◌, Bool, true, false, not, ◌&&◌, nat_lt, nat_eq, List, [], ◌∷◌, is_some, Option, Some, None, if◌then◌else◌}
+use Rattle.std.specs.List.{filter, list_any}
 use Rattle.std.specs.Ordering.{nat_cmp, eq_by_cmp}
 use Rattle.std.specs.FinMap.Entries.{find, put}
 use Rattle.tree_specs.specs.declared.object.Obj.{Obj}
@@ -163,8 +163,7 @@ is_for r a = false
 
 -- whether an open call makes an object that is to get a place in this region
 abbrev pub is_awaited : ℕ → List Awaited → Bool
-is_awaited r [] = false
-is_awaited r (a ∷ more) = is_for r a || is_awaited r more
+is_awaited r open_calls = list_any (is_for r) open_calls
 
 -- a region was made; no number is given twice, so that no open call makes an object below it
 abbrev pub region_made : Regions → ℕ → ℕ → Regions
