@@ -1,0 +1,39 @@
+-- What a host with regions hands to the host.
+use Rattle.std.specs.Prelude.{◌≡◌, ℕ, Bool, true, Option, Some, None}
+use Rattle.tree_specs.specs.declared.call.Call.TheVariants.{New}
+use Rattle.tree_specs.specs.declared.question.Ask.{Ask}
+use Rattle.tree_specs.specs.declared.question.Input.{Input}
+use Rattle.tree_specs.specs.Tree.Pool.{Pool}
+use Rattle.tree_specs.specs.Words.Ranges.{is_sound, is_sound_call}
+use Rattle.host_core.specs.Promises.{TakesAnswer, taken_by}
+use Rattle.region_rules.specs.declared.awaited.Awaited.{Awaited}
+use Rattle.region_rules.specs.declared.pool_input.PoolInput.{PoolInput}
+use Rattle.region_rules.specs.declared.pool_input.PoolInput.TheVariants as given
+use Rattle.region_rules.specs.Regions.{Regions, awaiting}
+use Rattle.known_regions.specs.Kept.{awaited_given}
+use Rattle.pool_calls.specs.Pools.{PoolView}
+
+abbrev pub with_awaited : Option Awaited → Regions → Regions
+with_awaited None d = d
+with_awaited (Some a) d = awaiting a d
+
+-- the host has taken the input, whose reply means this
+pub record Passes (old : PoolView) (i : Input) (o : Option Awaited) (new : PoolView) : Type 0 where
+  pub known : new.known ≡ with_awaited o old.known
+  pub extras : new.extras ≡ old.extras
+  pub taken : TakesAnswer old.host i new.host
+
+abbrev pub PassesInput : PoolView → Input → PoolView → Type 0
+PassesInput old i new = Passes old i (awaited_given old.known i) new
+
+-- every number is in its range
+abbrev pub is_sound_given : PoolInput → Bool
+is_sound_given (given.Host i) = is_sound i
+is_sound_given (given.Region owner bytes name) = is_sound_call (New owner 0 name)
+is_sound_given (given.Place x) = true
+is_sound_given (given.Space x) = true
+
+-- the descriptor that was accepted, where it is open already
+abbrev pub taken_given : Option Ask → Pool → PoolInput → Option ℕ
+taken_given q p (given.Host i) = taken_by q p i
+taken_given q p i = None
