@@ -3,6 +3,8 @@ use Rattle.std.specs.Prelude.{◌≡◌, ℕ, Bool, true, Option, Some, None}
 use Rattle.tree_specs.specs.declared.call.Call.TheVariants.{New}
 use Rattle.tree_specs.specs.declared.question.Ask.{Ask}
 use Rattle.tree_specs.specs.declared.question.Input.{Input}
+use Rattle.tree_specs.specs.Machine.View.{question_of}
+use Rattle.tree_specs.specs.Texts.Schedule.{misfit}
 use Rattle.tree_specs.specs.Tree.Pool.{Pool}
 use Rattle.tree_specs.specs.Words.Ranges.{is_sound, is_sound_call}
 use Rattle.host_core.specs.Promises.{TakesAnswer, taken_by}
@@ -20,6 +22,18 @@ with_awaited (Some a) d = awaiting a d
 -- the host has taken the input, whose reply means this
 pub record Passes (old : PoolView) (i : Input) (o : Option Awaited) (new : PoolView) : Type 0 where
   pub known : new.known ≡ with_awaited o old.known
+  pub extras : new.extras ≡ old.extras
+  pub taken : TakesAnswer old.host i new.host
+
+-- a call fits whose reply will mean this, and its reply is waited for
+pub record IsPrepared (old : PoolView) (i : Input) (a : Awaited) (new : PoolView) : Type 0 where
+  pub known : new ≡ record old { known = awaiting a old.known }
+  pub fits : misfit (question_of old.host) i ≡ None
+  pub untaken : (fd : ℕ) → taken_by (question_of old.host) old.host.pool i ≡ Some fd → ⊥
+
+-- the host has taken the call, whose reply is waited for already
+pub record PassesPrepared (old : PoolView) (i : Input) (new : PoolView) : Type 0 where
+  pub known : new.known ≡ old.known
   pub extras : new.extras ≡ old.extras
   pub taken : TakesAnswer old.host i new.host
 

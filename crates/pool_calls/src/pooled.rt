@@ -10,9 +10,10 @@ ghost use Rattle.host_core.specs.Promises.{Waits, taken_by};
 ghost use Rattle.region_rules.specs.declared.pool_input.PoolInput.TheVariants as givens;
 ghost use Rattle.region_rules.specs.declared.added.Added.TheVariants.{Replied};
 ghost use Rattle.region_rules.specs.Pooling.{place_answer};
+ghost use Rattle.region_rules.specs.Regions.{answered};
 ghost use Rattle.region_rules.specs.Schedules.{pool_misfit};
 ghost use Rattle.known_regions.specs.Kept.{IsSound};
-ghost use Rattle.pool_calls.specs.Passing.{Passes, PassesInput, is_sound_given, taken_given};
+ghost use Rattle.pool_calls.specs.Passing.{IsPrepared, Passes, PassesInput, PassesPrepared, is_sound_given, taken_given};
 
 use crate::event::PoolEvent;
 use host_core::{Host, OfferFault};
@@ -97,6 +98,40 @@ impl Pooled {
         }
     }
 
+    /// A call is to be given to the host whose reply will mean this: it fits, and there is memory for its reply.
+    fn prepare(&mut self, input: &Input, awaited: Awaited) -> Result<(), OfferFault>
+        requires { IsSound awaited }
+        ensures ok { OnOk result (IsPrepared self.old input.now awaited self.new) }
+        ensures err { OnErr result (self.new ≡ self.old) }
+        ensures not_asked { (result ≡ Err OfferFault.NotAsked) ↔ (misfit (question_of self.old.host) input.now ≡ Some reasons.NotAsked) }
+        ensures taken { (fd : ℕ) → (result ≡ Err (OfferFault.Taken fd)) ↔ (taken_by (question_of self.old.host) self.old.host.pool input.now ≡ Some fd) }
+    {
+        match self.host.check(input) {
+            Ok(()) => match self.known.wait_for(awaited) {
+                Ok(()) => Ok(()),
+                Err(Memory) => Err(OfferFault::Memory),
+            },
+            Err(fault) => Err(fault),
+        }
+    }
+
+    /// Gives the host a call for which all is prepared. Where memory runs out its reply isn't waited for.
+    fn pass_prepared(&mut self, input: Input) -> Result<(), OfferFault>
+        requires sound { IsTrue (is_sound input) }
+        ensures ok { OnOk result (PassesPrepared self.old input self.new) }
+        ensures err { OnErr result (self.new ≡ record self.old { known = answered self.old.known }) }
+        ensures not_asked { (result ≡ Err OfferFault.NotAsked) ↔ (misfit (question_of self.old.host) input ≡ Some reasons.NotAsked) }
+        ensures taken { (fd : ℕ) → (result ≡ Err (OfferFault.Taken fd)) ↔ (taken_by (question_of self.old.host) self.old.host.pool input ≡ Some fd) }
+    {
+        match self.host.offer(input) {
+            Ok(()) => Ok(()),
+            Err(fault) => {
+                self.known.forget();
+                Err(fault)
+            }
+        }
+    }
+
     /// Gives the host a call whose reply will mean this.
     fn pass(&mut self, input: Input, awaited: Awaited) -> Result<(), OfferFault>
         requires sound { IsTrue (is_sound input) }
@@ -106,13 +141,13 @@ impl Pooled {
         ensures not_asked { (result ≡ Err OfferFault.NotAsked) ↔ (misfit (question_of self.old.host) input ≡ Some reasons.NotAsked) }
         ensures taken { (fd : ℕ) → (result ≡ Err (OfferFault.Taken fd)) ↔ (taken_by (question_of self.old.host) self.old.host.pool input ≡ Some fd) }
     {
-        self.host.check(&input)?;
-        self.known.wait_for(awaited)?;
-        let offered = self.host.offer(input);
-        if offered.is_err() {
-            self.known.forget();
+        match self.prepare(&input, awaited) {
+            Ok(()) => self.pass_prepared(input),
+            Err(fault) => {
+                drop(input);
+                Err(fault)
+            }
         }
-        offered
     }
 
     /// Gives the host an input.
