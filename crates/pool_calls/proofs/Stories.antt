@@ -89,7 +89,7 @@ takes-passed d d' h h' j i w t fits e =
       open_before = w.open_now;
       fits = fits;
       goes_on = λ js. heard-passed pooling (λ d' q. refl) d (λ is. sights_of h is) (λ is. sights_of h' is) (sight h.pool (Asked w.question)) q j i d' refl (begins h w) e
-        (λ is. t.seen is ∙ ap (λ z. sight h.pool (Asked z) ∷ sights_of h' is) same) js;
+          (λ is. t.seen is ∙ ap (λ z. sight h.pool (Asked z) ∷ sights_of h' is) same) js;
     }
 
 pub takes-replied : (d : Regions) (h : View) (j : PoolInput) (a : Answer) → (w : Waits h) → pool_misfit (question_of h) j ≡ None → heard d w.question h.pool j ≡ answers d a → PoolTakes (view d [] h) j (view d (Replied a ∷ []) h)

@@ -102,13 +102,15 @@ popped bytes g (y ∷ ys) x k e c =
     let same : x ≡ y = cc in
     let one : suc (length ys) - 1 ≡ length ys = omega arith in
     let left : counts (g y) (length ys) ≡ false = sym (ap (λ h. counts (g y) h) one) ∙ sym (ap (λ z. counts (g z) (suc (length ys) - 1)) same) ∙ c in
-    let out : live g (y ∷ ys) ≡ live g ys = left-out g y ys left in
-    (record {
-      small = k.small;
-      named = k.named;
-      stand = λ z s f. stands-still g ys y z s f left (k.stand z s f);
-      within = subst (λ (l : List Place). LieWithin bytes l) out k.within;
-    }, sym out)
+    let out : live g (y ∷ ys) ≡ live g ys = left-out g y ys left in (
+      record {
+        small = k.small;
+        named = k.named;
+        stand = λ z s f. stands-still g ys y z s f left (k.stand z s f);
+        within = subst (λ (l : List Place). LieWithin bytes l) out k.within;
+      },
+      sym out,
+    )
 
 pub has-last : (g : Spots) (xs : List ℕ) (x : ℕ) → slice_get xs 0 ≡ Some x → counts (g x) (length xs - 1) ≡ true → HasLast g xs
 has-last g [] x e c = tt
@@ -127,13 +129,15 @@ given-up bytes a b xs x r p =
     let less = gone (spots_in a) (spots_in b) x r.kept.named at xs in
     let was : (q : ℕ) (s : Spot) → held b q ≡ Some s → held a q ≡ Some s = λ q s f. by-test (nat_eq x q) (held a q) s (sym (at q) ∙ f) in
     let t = top-less (live (spots_in a) xs) x in
-    let l = r.kept.within.1 in
-    (record {
-      small = r.kept.small;
-      named = λ q s f. r.kept.named q s (was q s f);
-      stand = λ q s f. r.kept.stand q s (was q s f);
-      within = subst (λ (z : List Place). LieWithin bytes z) (sym less) (apart-less (live (spots_in a) xs) x r.kept.within.0, omega (arith, t, l));
-    }, less)
+    let l = r.kept.within.1 in (
+      record {
+        small = r.kept.small;
+        named = λ q s f. r.kept.named q s (was q s f);
+        stand = λ q s f. r.kept.stand q s (was q s f);
+        within = subst (λ (z : List Place). LieWithin bytes z) (sym less) (apart-less (live (spots_in a) xs) x r.kept.within.0, omega (arith, t, l));
+      },
+      less,
+    )
   where
     by-test : (c : Bool) (o : Option Spot) (s : Spot) → cond c None o ≡ Some s → o ≡ Some s
     by-test true o s e = cc
@@ -153,16 +157,18 @@ taken bytes a b xs x room s r none p high there fits =
     let ps = live (spots_in a) xs in
     let up-to : top_of ps ≤ top_of ps = omega arith in
     let t = top-first (next_place ps x room) ps up-to in
-    let name : s.place.object ≡ x = ap (λ z. z.object) there in
-    (record {
-      kept = record {
-        small = r.kept.small;
-        named = λ q t f. named-test q t name (nat_eq x q) refl (sym (at q) ∙ f);
-        stand = λ q t f. stand-test q t high (nat_eq x q) refl (sym (at q) ∙ f);
-        within = subst (λ (z : List Place). LieWithin bytes z) (sym more) ((up-to, r.kept.within.0), omega (arith, t, fits));
-      };
-      last = count;
-    }, more)
+    let name : s.place.object ≡ x = ap (λ z. z.object) there in (
+      record {
+        kept = record {
+          small = r.kept.small;
+          named = λ q t f. named-test q t name (nat_eq x q) refl (sym (at q) ∙ f);
+          stand = λ q t f. stand-test q t high (nat_eq x q) refl (sym (at q) ∙ f);
+          within = subst (λ (z : List Place). LieWithin bytes z) (sym more) ((up-to, r.kept.within.0), omega (arith, t, fits));
+        };
+        last = count;
+      },
+      more,
+    )
   where
     named-test : (q : ℕ) (t : Spot) → s.place.object ≡ x → (c : Bool) → nat_eq x q ≡ c → cond c (Some s) (held a q) ≡ Some t → t.place.object ≡ q
     named-test q t name true c f = let h : s ≡ t = cc in sym (ap (λ z. z.place.object) h) ∙ name ∙ eqb-true x q c

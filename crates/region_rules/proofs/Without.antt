@@ -171,9 +171,10 @@ module _ {F A P : Type 0} (t : Table F A P Input Sight) (Fine : F → List F →
         let empty : (l : List Input) → answered i s l ≡ [] = λ l. ap tail (h l) in
         (h is ∙ ap (λ l. x ∷ l) (sym (empty is)), none-after (answered i s) d' js is empty)
     after-input s x d' fs p i js (Some g) h is e =
-        let same : answered i s ≡ story g fs p = fun_ext (λ l. ap tail (h.1 l)) in
-        (h.1 is ∙ ap (λ l. x ∷ l) (sym (ap tail (h.1 is))),
-         subst (λ (z : Story Input Sight). Same z d' js is) (sym same) (ih d' g fs p js h.0 is (sym (ap (λ (z : Story Input Sight). filled pooling n d' z js) same) ∙ e)))
+        let same : answered i s ≡ story g fs p = fun_ext (λ l. ap tail (h.1 l)) in (
+          h.1 is ∙ ap (λ l. x ∷ l) (sym (ap tail (h.1 is))),
+          subst (λ (z : Story Input Sight). Same z d' js is) (sym same) (ih d' g fs p js h.0 is (sym (ap (λ (z : Story Input Sight). filled pooling n d' z js) same) ∙ e)),
+        )
 
     first-in : (i : Input) (o : Option (List Input)) (is : List Input) → with_first i o ≡ Some is → (more : List Input) × (o ≡ Some more) × (i ∷ more ≡ is)
     first-in i None is e = cc

@@ -43,7 +43,7 @@ after_input d (input.Act (Do c)) = awaiting (awaited_by d c) d
 after_input d i = d
 
 abbrev pub where_in : ℕ → Option Region → ℕ → Answer
-where_in r region x = elim (place_in region x) [ | None ↦ answer.Number 0 | Some p ↦ answer.Pair r p.start ]
+where_in r region x = elim (place_in region x) [ None ↦ answer.Number 0 | Some p ↦ answer.Pair r p.start ]
 
 abbrev pub where_is : Regions → ℕ → Option ℕ → Answer
 where_is d x None = answer.Number 0

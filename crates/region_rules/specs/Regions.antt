@@ -98,9 +98,10 @@ abbrev pub Outcome : Type 0
 Outcome = Regions × List Added
 
 abbrev pub placed_at : Regions → ℕ → ℕ → Region → Place → Outcome
-placed_at d r n region p =
-    (with_home n r (with_region r (with_places (p ∷ region.places) region) d),
-     Placed (object n) (object r) p.start p.room ∷ [])
+placed_at d r n region p = (
+  with_home n r (with_region r (with_places (p ∷ region.places) region) d),
+  Placed (object n) (object r) p.start p.room ∷ [],
+)
 
 abbrev pub placed_if : Bool → Regions → ℕ → ℕ → Region → ℕ → Outcome
 placed_if true d r n region room = placed_at d r n region (next_place region.places n room)

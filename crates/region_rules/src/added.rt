@@ -23,7 +23,10 @@ pub enum Added {
         room: u64,
     },
     /// An object is below a region and has no place in it: there wasn't so much room, or the object has grown.
-    Outside { object: Obj, region: Obj },
+    Outside {
+        object: Obj,
+        region: Obj,
+    },
     /// A region is given back: it is no object any more, and no object has a place in it.
     Returned(Obj),
     /// The reply to a question about regions and places, or to a region that is too big.
