@@ -17,16 +17,16 @@ use std::marker::Model;
 use tree_specs::{Act, Call, Event, Input, Memory, Obj, Owner, Reply, SIZE_LIMIT};
 
 /// A region of so many bytes was made. No number is given twice, so no open call makes an object below it.
-fn begin_region(places: &mut Places, open: &OpenCalls, bytes: u64, n: u64)
+fn begin_region(places: &mut Places, calls: &OpenCalls, bytes: u64, n: u64)
     requires spare { 1 ≤ places.old.held.spare }
     requires small { bytes < size_limit }
-    ensures regions { regions_of places.new open.now.calls ≡ region_made (regions_of places.old open.now.calls) n bytes }
-    ensures room { HasRoom places.old (awaits.Region bytes ∷ open.now.calls) → HasRoom places.new open.now.calls }
+    ensures regions { regions_of places.new calls.now.calls ≡ region_made (regions_of places.old calls.now.calls) n bytes }
+    ensures room { HasRoom places.old (awaits.Region bytes ∷ calls.now.calls) → HasRoom places.new calls.now.calls }
 {
-    if open.awaits(n) {
+    if calls.awaits(n) {
         return;
     }
-    places.begin(open.alloc(), bytes, n);
+    places.begin(calls.alloc(), bytes, n);
 }
 
 /// What is known of regions. All memory for what the reply to a call leads to is taken before the call. Contracts see the
@@ -34,7 +34,7 @@ fn begin_region(places: &mut Places, open: &OpenCalls, bytes: u64, n: u64)
 #[derive(Drop)]
 pub struct Known {
     places: Places,
-    open: OpenCalls,
+    calls: OpenCalls,
 }
 
 impl Model for Known {
@@ -43,9 +43,9 @@ impl Model for Known {
 
     ghost Value = { Regions };
 
-    ghost view = { λ k. regions_of k.places k.open.calls };
+    ghost view = { λ k. regions_of k.places k.calls.calls };
 
-    ghost invariant = { λ k. HasRoom k.places k.open.calls × AreSound k.open.calls };
+    ghost invariant = { λ k. HasRoom k.places k.calls.calls × AreSound k.calls.calls };
 }
 
 impl Known {
@@ -55,7 +55,7 @@ impl Known {
     {
         Known {
             places: Places::new(alloc),
-            open: OpenCalls::new(alloc),
+            calls: OpenCalls::new(alloc),
         }
     }
 
@@ -110,10 +110,10 @@ impl Known {
         ensures ok { OnOk result (self.new ≡ awaiting awaited self.old) }
         ensures err { OnErr result (self.new ≡ self.old) }
     {
-        self.open.reserve()?;
-        let many = self.open.len().checked_add(1).ok_or(Memory)?;
+        self.calls.reserve()?;
+        let many = self.calls.len().checked_add(1).ok_or(Memory)?;
         self.places.reserve(awaited, many)?;
-        self.open.push(awaited);
+        self.calls.push(awaited);
         Ok(())
     }
 
@@ -121,7 +121,7 @@ impl Known {
     pub fn forget(&mut self)
         ensures { self.new ≡ answered self.old }
     {
-        self.open.pop();
+        self.calls.pop();
     }
 
     /// A reply came. Gives what is told besides.
@@ -129,12 +129,12 @@ impl Known {
         ensures known { self.new ≡ (replied_to (answered self.old) self.old.awaited reply.now).0 }
         ensures added { result ≡ (replied_to (answered self.old) self.old.awaited reply.now).1 }
     {
-        match (self.open.pop(), reply) {
+        match (self.calls.pop(), reply) {
             (Some(Awaited::Object { region, room }), Reply::Number(n)) => {
                 self.places.place(region, room, *n)
             }
             (Some(Awaited::Region { bytes }), Reply::Number(n)) => {
-                begin_region(&mut self.places, &self.open, bytes, *n);
+                begin_region(&mut self.places, &self.calls, bytes, *n);
                 Extras::none()
             }
             (Some(Awaited::Size { object, room }), Reply::Ok) => self.places.grow(object.0, room),
