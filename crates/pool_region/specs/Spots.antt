@@ -1,6 +1,8 @@
 -- What contracts see of a region, and how it is kept: a stack of objects, and for each that has a place where it stands there.
 use Rattle.std.specs.Prelude.{◌≡◌, ℕ, ◌<◌, ◌≤◌, Bool, true, false, nat_eq, List, [], ◌∷◌, length, Option, Some, None, if◌then◌else◌}
 use Rattle.tree_specs.specs.Calls.Refusals.{size_limit}
+use Rattle.std.specs.FinMap as map
+use Rattle.pool_arena.specs.Arena.{Held, get}
 use Rattle.region_rules.specs.declared.place.Place.{Place}
 use Rattle.region_rules.specs.Places.{LieWithin}
 use Rattle.pool_region.specs.declared.region.Spot.{Spot}
@@ -52,6 +54,10 @@ AreNamed g = (x : ℕ) (s : Spot) → g x ≡ Some s → s.place.object ≡ x
 
 abbrev pub AllStand : Spots → List ℕ → Type 0
 AllStand g xs = (x : ℕ) (s : Spot) → g x ≡ Some s → Stands xs x s.height
+
+-- as many places are live as objects have a spot
+abbrev pub AreCounted : Held Spot → List ℕ → Type 0
+AreCounted a xs = map.len a.pairs ≡ length (live (λ x. get a x) xs)
 
 -- what holds before and after the last ones that gave up their places leave the stack
 pub record IsKept (bytes : ℕ) (g : Spots) (xs : List ℕ) : Type 0 where

@@ -59,13 +59,13 @@ pub struct Region {
 impl Model for Region {
     ghost use Rattle.std.specs.Prelude.{min};
     ghost use Rattle.pool_arena.specs.Arena.{get as held};
-    ghost use Rattle.pool_region.specs.Spots.{Extent, live, IsRegion};
+    ghost use Rattle.pool_region.specs.Spots.{Extent, live, AreCounted, IsRegion};
 
     ghost Value = { Extent };
 
     ghost view = { λ r. record { bytes = r.bytes; places = live (λ x. held r.spots x) r.stack.objects; spare = min r.stack.room r.spots.spare } };
 
-    ghost invariant = { λ r. IsRegion r.bytes (λ x. held r.spots x) r.stack.objects };
+    ghost invariant = { λ r. IsRegion r.bytes (λ x. held r.spots x) r.stack.objects × AreCounted r.spots r.stack.objects };
 }
 
 impl Region {
@@ -172,6 +172,13 @@ impl Region {
         ensures { result ≡ self.now.bytes }
     {
         self.bytes
+    }
+
+    /// How many objects have a place.
+    pub fn len(&self) -> usize
+        ensures { result ≡ length self.now.places }
+    {
+        self.spots.len()
     }
 
     /// Whether no object has a place.

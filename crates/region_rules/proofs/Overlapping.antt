@@ -69,7 +69,7 @@ less-lies r x l = (apart-less r.places x l.0, let t = top-less r.places x in let
 
 more-lies : (r : Region) (n room : ℕ) → gets_place r.bytes r.places n room ≡ true → Lies r → Lies (with_places (next_place r.places n room ∷ r.places) r)
 more-lies r n room f l =
-    let m = leb-true (top_of r.places + room) r.bytes (and_parts _ _ f).1 in
+    let m : top_of r.places + room ≤ r.bytes = leb-true (top_of r.places + room) r.bytes (and_parts _ _ f).1 in
     let k = l.1 in
     ((omega arith, l.0), omega (arith, m, k))
 
