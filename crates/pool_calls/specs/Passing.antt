@@ -1,12 +1,10 @@
 -- What a host with regions hands to the host.
-use Rattle.std.specs.Prelude.{◌≡◌, ℕ, Bool, true, Option, Some, None}
-use Rattle.tree_specs.specs.declared.call.Call.TheVariants.{New}
+use Rattle.std.specs.Prelude.{◌≡◌, ℕ, Option, Some, None}
 use Rattle.tree_specs.specs.declared.question.Ask.{Ask}
 use Rattle.tree_specs.specs.declared.question.Input.{Input}
 use Rattle.tree_specs.specs.Machine.View.{question_of}
 use Rattle.tree_specs.specs.Texts.Schedule.{misfit}
 use Rattle.tree_specs.specs.Tree.Pool.{Pool}
-use Rattle.tree_specs.specs.Words.Ranges.{is_sound, is_sound_call}
 use Rattle.host_core.specs.Promises.{TakesAnswer, taken_by}
 use Rattle.region_rules.specs.declared.awaited.Awaited.{Awaited}
 use Rattle.region_rules.specs.declared.pool_input.PoolInput.{PoolInput}
@@ -39,13 +37,6 @@ pub record PassesPrepared (old : PoolView) (i : Input) (new : PoolView) : Type 0
 
 abbrev pub PassesInput : PoolView → Input → PoolView → Type 0
 PassesInput old i new = Passes old i (awaited_given old.known i) new
-
--- every number is in its range
-abbrev pub is_sound_given : PoolInput → Bool
-is_sound_given (given.Host i) = is_sound i
-is_sound_given (given.Region owner bytes name) = is_sound_call (New owner 0 name)
-is_sound_given (given.Place x) = true
-is_sound_given (given.Space x) = true
 
 -- the descriptor that was accepted, where it is open already
 abbrev pub taken_given : Option Ask → Pool → PoolInput → Option ℕ

@@ -10,10 +10,11 @@ ghost use Rattle.host_core.specs.Promises.{Waits, taken_by};
 ghost use Rattle.region_rules.specs.declared.pool_input.PoolInput.TheVariants as givens;
 ghost use Rattle.region_rules.specs.declared.added.Added.TheVariants.{Replied};
 ghost use Rattle.region_rules.specs.Pooling.{place_answer};
+ghost use Rattle.region_rules.specs.Ranges.{is_sound_given};
 ghost use Rattle.region_rules.specs.Regions.{answered};
 ghost use Rattle.region_rules.specs.Schedules.{pool_misfit};
 ghost use Rattle.known_regions.specs.Kept.{IsSound};
-ghost use Rattle.pool_calls.specs.Passing.{IsPrepared, Passes, PassesInput, PassesPrepared, is_sound_given, taken_given};
+ghost use Rattle.pool_calls.specs.Passing.{IsPrepared, Passes, PassesInput, PassesPrepared, taken_given};
 
 use crate::event::PoolEvent;
 use host_core::{Host, OfferFault};

@@ -4,5 +4,6 @@ pub mod Within
 pub mod Seen
 pub mod Pooling
 pub mod Lines
+pub mod Ranges
 pub mod Schedules
 pub mod Examples

@@ -5,7 +5,9 @@ use Rattle.tree_specs.specs.declared.reply.Reply.{Reply}
 use Rattle.tree_specs.specs.declared.reply.Reply.TheVariants as reply
 use Rattle.tree_specs.specs.declared.schedule.Version.TheVariants.{Two}
 use Rattle.tree_specs.specs.Rules.Items.Item.{Asked}
-use Rattle.tree_specs.specs.Texts.Grammar.{words, strip, owner_of, object_of, name_of, number_of, input_of, ◌>>=◌, ◌or◌}
+use Rattle.tree_specs.specs.Texts.Grammar.{words, strip, with_field, object_of, name_of, number_of, input_of, ◌>>=◌, ◌or◌}
+use Rattle.tree_specs.specs.Words.Objects.{numbered_owner}
+use Rattle.tree_specs.specs.declared.object.Owner.{Owner}
 use Rattle.tree_specs.specs.Texts.Text.{newline, numbers_text, item_text, end_text, reply_text}
 use Rattle.region_rules.specs.declared.added.Added.{Added}
 use Rattle.region_rules.specs.declared.added.Added.TheVariants.{Placed, Outside, Returned, Replied}
@@ -18,16 +20,17 @@ use Rattle.region_rules.specs.Seen.Seen.{Passed, Extra}
 
 -- ---- lines of a schedule, each without its LF
 
-abbrev pub region_of_words : List (List ℕ) → Option PoolInput
-region_of_words (owner ∷ bytes ∷ name ∷ []) = do
-  o ← owner_of owner
-  b ← number_of bytes
+-- the name of a region is the last word
+abbrev pub named_region : Owner → ℕ → List (List ℕ) → Option PoolInput
+named_region owner bytes (name ∷ []) = do
   n ← name_of Two name
-  Some (given.Region o b n)
-region_of_words _ = None
+  Some (given.Region owner bytes n)
+named_region owner bytes _ = None
 
+-- an owner, a number of bytes, and a name
 abbrev pub region_input_of : List ℕ → Option PoolInput
-region_input_of text = region_of_words (words text)
+region_input_of text =
+    with_field number_of (words text) (λ owner more. with_field number_of more (λ bytes rest. named_region (numbered_owner owner) bytes rest))
 
 abbrev pub place_input_of : List ℕ → Option PoolInput
 place_input_of text = option_map given.Place (object_of text)
