@@ -23,7 +23,8 @@ use Rattle.host_core.specs.Steps.{IsOther, IsWaiter}
 use Rattle.host_core.specs.declared.step.Step.{Step}
 use Rattle.tree_specs.specs.declared.frame.Errand.{Errand}
 use Rattle.tree_specs.specs.declared.frame.Errand.TheVariants.{Receive}
-use Rattle.object_pool.specs.Objects.{Objects}
+use Rattle.destructors.specs.Engine.{IsPreparing}
+use Rattle.object_pool.specs.Objects.{Objects, MayFreeOn}
 use Rattle.host_core.specs.Going.{GoesWell}
 use Rattle.host_core.specs.Places.{owed, places, errand_places, HasPlaces}
 
@@ -117,11 +118,17 @@ fits-silently s t ws (On u _ earlier last) e = each u.works (fits-silently s u w
     each [] k m = absurd k.0
     each (f ∷ fs) k m = subst (λ (z : Option FreeStep × OpenFrees). FitAfter z ws) m (fit-next f fs u.pool ws k)
 
+-- ---- a free that waits lets another one begin
+
+pub may_free_on : (innermost : Option FreeFrame) → IsPreparing innermost → MayFreeOn innermost
+may_free_on None e = absurd e
+may_free_on (Some f) e = e
+
 -- ---- more places than a step takes
 
 pub more-places : (a b : ℕ) (step : Step) (o : Objects) → a ≤ b → GoesWell a step o → GoesWell b step o
 more-places a b step o l g = let most = g.places in record { busy = g.busy; ready = g.ready; places = omega (arith, l, most) }
 
-pub errand-takes : (errand : Errand) → 2 ≤ errand_places errand
+pub errand-takes : (errand : Errand) → 1 ≤ errand_places errand
 errand-takes Receive = omega arith
 errand-takes _ = omega arith

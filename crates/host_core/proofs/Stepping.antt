@@ -74,7 +74,7 @@ module _ (f : Frame) (step : Step) (old : Parts) (o : Objects) (whole : IsConsis
 -- ---- whoever waits for a turn, or for the work of a request
 
 pub turn_answers : (step : Step) (t : TurnFrame) (fs : List FreeFrame) (ws : List Waiting) (p : Pool) (o : Objects) → IsTurnStep step → Fits fs ws → IsConsistent (other_view (frame.Turn t) fs ws p) → StepAnswers step ws o
-turn_answers (Ends (Turned v)) t fs ws p o s fit h = turned-answers t v fs ws o fit h.sound.waiting h.seated
+turn_answers (Ends (Turned v)) t fs ws p o s fit h = turned-answers t v fs ws o fit h.sound.waiting h.seated h.calm.1
 turn_answers (Ends (Freed a)) t fs ws p o s fit h = absurd s
 turn_answers (Ends (Returned v)) t fs ws p o s fit h = absurd s
 turn_answers (Ends (Heard r)) t fs ws p o s fit h = absurd s

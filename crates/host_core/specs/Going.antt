@@ -37,7 +37,7 @@ use Rattle.host_core.specs.Callers.{remembers}
 use Rattle.host_core.specs.Moves.{move_of, ReadyFor}
 use Rattle.host_core.specs.Reaches.{remembered}
 use Rattle.host_core.specs.Hosts.{host_view, called_view, below_in, moved, speaking_view, PartsReady, HasRoom, IsBetweenSteps, StepsSilently}
-use Rattle.host_core.specs.Places.{places, HasPlacesFor}
+use Rattle.host_core.specs.Places.{places, own_place, HasPlacesFor}
 use Rattle.host_core.specs.Stacks.{active_frame, answer_of, Fits}
 use Rattle.host_core.specs.Steps.{step_of, IsBusy}
 use Rattle.host_core.specs.Turns.{turn_asks}
@@ -79,7 +79,7 @@ abbrev pub answer_places : Answer → ℕ
 answer_places (Freed a) = 2
 answer_places (Returned v) = 4
 answer_places (Turned v) = 0
-answer_places (Heard r) = 2
+answer_places (Heard r) = 1
 
 -- the innermost of the works that wait
 pub record Answers (a : Answer) (ws : List Waiting) (o : Objects) : Type 0 where
@@ -116,9 +116,9 @@ StepReady (Ends a) o = Unit {0}
 abbrev pub step_places : Step → ℕ
 step_places (Goes next) = places next
 step_places (Calls first second) = 1 + places first
-step_places (Frees x second) = 3
-step_places (Unlinks owner x second) = 3
-step_places (Empties x second) = 3
+step_places (Frees x second) = own_place second + 2
+step_places (Unlinks owner x second) = own_place second + 2
+step_places (Empties x second) = own_place second + 2
 step_places (Ends a) = answer_places a
 
 -- whoever waits for a work that is over

@@ -46,7 +46,7 @@ use Rattle.tree_specs.specs.Texts.Schedule.{misfit}
 use Rattle.tree_stories.specs.Sights.{sights_of}
 use Rattle.host_core.specs.Moves.{call_of, reported}
 use Rattle.host_core.specs.Reaches.{IsOutside, is_bytes, outside_given}
-use Rattle.host_core.specs.Places.{HasPlaces, HasPlacesFor}
+use Rattle.host_core.specs.Places.{taken_places, HasPlaces, HasPlacesFor}
 use Rattle.host_core.specs.Requests.{work_tells, work_told, pool_told, WorkReady}
 use Rattle.host_core.specs.Stacks.{standing, active_frame, other_view, seen, Fits, AllFit}
 use Rattle.host_core.specs.Turns.{turn_asks, turn_given, turn_tells, frame_fired}
@@ -97,7 +97,7 @@ pub record IsBetweenSteps (now : Active) (parts : Parts) : Type 0 where
   pub whole : IsConsistent (host_view now parts)
   pub fit : AllFit now parts.objects.works (reverse parts.waiting.items)
   pub ready : PartsReady now parts.objects
-  pub places : HasPlaces now (length parts.waiting.items) parts.objects (vec_capacity parts.waiting)
+  pub places : HasPlaces now (taken_places parts.waiting.items) parts.objects (vec_capacity parts.waiting)
 
 -- ---- a step
 

@@ -166,7 +166,7 @@ fn handler(routine: u32, user: u64, context: Obj) -> Handler
 
 /// Does a call that sets something which is kept of an object, or tells something.
 #[inline(always)]
-#[tactic(auto, using(crate::proofs::Allowed::may_go, crate::proofs::Allowed::may_go_itself))]
+#[tactic(auto, using(crate::proofs::Allowed::may_go, crate::proofs::Allowed::may_go_itself, crate::proofs::Allowed::may_use))]
 fn set_or_tell(call: Call, pool: &mut ObjectPool) -> Motion
     requires at_once { is_work call ≡ false }
     requires same_objects { is_making call ≡ false }
@@ -218,7 +218,7 @@ fn set_or_tell(call: Call, pool: &mut ObjectPool) -> Motion
 
 /// Does a call that is over at once. One that makes an object replies its number.
 #[inline(always)]
-#[tactic(auto, using(crate::proofs::Allowed::may_go, crate::proofs::Allowed::may_go_itself))]
+#[tactic(auto, using(crate::proofs::Allowed::may_go, crate::proofs::Allowed::may_go_itself, crate::proofs::Allowed::may_use))]
 fn do_at_once(call: Call, pool: &mut ObjectPool) -> Motion
     requires at_once { is_work call ≡ false }
     requires ready { pool.old.ready ≡ true }
@@ -283,7 +283,7 @@ fn begin_turn(ask: &Ask, context: Obj, pool: &mut ObjectPool) -> Motion
 }
 
 /// Does a call that isn't refused and whose reply takes no memory: any call but a report.
-#[tactic(auto, using(crate::proofs::Allowed::may_go, crate::proofs::Allowed::may_go_itself))]
+#[tactic(auto, using(crate::proofs::Allowed::may_go, crate::proofs::Allowed::may_go_itself, crate::proofs::Allowed::may_use))]
 fn effect(ask: &Ask, call: Call, pool: &mut ObjectPool) -> Motion
     requires queues { QueuesAreKept pool.old.pool }
     requires reference { RefsMayGo pool.old.pool.rows }

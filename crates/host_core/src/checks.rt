@@ -3,7 +3,7 @@ ghost use Rattle.std.specs.Prelude.{◌≡◌, ◌<◌, [], ◌∷◌, not, IsOk
 ghost use Rattle.std.specs.Option.{option_copied, option_map};
 ghost use Rattle.tree_specs.specs.Tree.Pool.{row_of, is_dying, is_usable_row};
 ghost use Rattle.tree_specs.specs.declared.reply.Refusal.TheVariants.{WrongKind};
-ghost use Rattle.tree_specs.specs.Calls.Refusals.{checked, refuse_if, is_going, is_doomed, is_running, small, owner, context, object_row, open_one, unused, room, apart, held, interested, given_by, unreferenced, growing, size_limit, refusal_of, refused};
+ghost use Rattle.tree_specs.specs.Calls.Refusals.{checked, refuse_if, is_going, is_doomed, is_running, small, owner, context as unusable, object_row, open_one, unused, room, apart, held, interested, given_by, unreferenced, growing, size_limit, refusal_of, refused};
 
 use crate::request_checks::{check_failing, check_finished, check_in_progress, check_number};
 use crate::subject::Subject;
@@ -133,7 +133,7 @@ fn check_kind(x: Obj, is: bool) -> Result<(), Refusal>
 /// Refuses a context that is none, that is being freed, or that is to be after its turn. The first one always is there.
 #[tactic(auto, using(crate::proofs::Allowed::refused_three, crate::proofs::Allowed::allowed_three))]
 pub fn check_context(context: Obj, objects: &Subject) -> Result<(), Refusal>
-    ensures { result ≡ checked (context objects.now context) }
+    ensures { result ≡ checked (unusable objects.now context) }
 {
     if context == Obj::first_context() {
         return Ok(());

@@ -36,7 +36,7 @@ use tree_specs::{Act, Ask, Call, Input, TurnFrame};
 
 /// A turn of a context that has begun looks what comes first. The host's own caller waits for it.
 fn turn() -> Step
-    ensures step { (q : AskData) (p : PoolData) → step_of result p ≡ move_of q Motion.Turns p }
+    ensures step { (p : PoolData) → step_of result p ≡ move_of Ask.Quiet Motion.Turns p }
     ensures busy { IsBusy result }
     ensures places { step_places result ≤ 4 }
     ensures ready { (o : ObjectsData) → o.ready ≡ true → StepReady result o }
@@ -85,6 +85,7 @@ fn call_step(ask: Ask, motion: Motion) -> Step
 }
 
 /// What is still to do of a turn once it was told the time, in microseconds, or which descriptors are ready.
+#[tactic(auto, using(crate::proofs::Turning::looked_given))]
 fn turn_given(frame: TurnFrame, input: &Input, objects: &ObjectPool) -> TurnFrame
     requires { is_none (misfit (turn_asks frame) input.now) ≡ true }
     ensures { result ≡ turn_given frame input.now objects.now.pool }

@@ -95,6 +95,7 @@ fn picked(pick: Pick, waited: bool, objects: &ObjectPool) -> Step
 
 /// Makes what comes busy, and goes on to tell that its handler runs. Where it has none the turn is over.
 fn start(what: What, x: Obj, occasion: Occasion, objects: &mut ObjectPool) -> Step
+    requires ready { objects.old.ready ≡ true }
     ensures step { step_of result objects.new.pool ≡ turn_step (Starting what x occasion) objects.old.pool }
     ensures goes { GoesWell 3 result objects.new }
     ensures ends { IsTurnStep result }
@@ -134,14 +135,14 @@ fn close(value: u64, objects: &mut ObjectPool) -> Step
     requires may { MayTurn (Closing value) objects.old.pool }
     requires ready { FrameReady (Closing value) objects.old }
     ensures step { step_of result objects.new.pool ≡ turn_step (Closing value) objects.old.pool }
-    ensures goes { GoesWell 3 result objects.new }
+    ensures goes { GoesWell 2 result objects.new }
     ensures ends { IsTurnStep result }
     ensures rest { objects.new ≡ record objects.old { pool = objects.new.pool } }
     ensures requests { objects.new.pool.requests ≡ objects.old.pool.requests }
 {
     match objects.exit() {
         Some(context) => {
-            let parting = TurnFrame::Parting { c: context, value };
+            let parting = TurnFrame::Parting { x: context, value };
             Step::Frees(context, Waiting::Turn(parting))
         }
         None => Step::Ends(Answer::Turned(value)),

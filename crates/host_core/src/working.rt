@@ -43,7 +43,7 @@ fn goes(work: Work) -> Step
 /// An errand is over.
 fn over(errand: Errand) -> Step
     ensures step { (p : PoolData) → step_of result p ≡ over_step errand p }
-    ensures goes { (o : ObjectsData) → GoesWell 2 result o }
+    ensures goes { (o : ObjectsData) → GoesWell 1 result o }
     ensures ongoing { IsOngoing result }
 {
     goes(Work::Over {
@@ -54,7 +54,7 @@ fn over(errand: Errand) -> Step
 /// Goes on to the routine that cancels a request, where it has one and wasn't received.
 fn cancel(x: Obj, objects: &ObjectPool) -> Step
     ensures step { step_of result objects.now.pool ≡ request_step (Cancelling x) objects.now.pool }
-    ensures goes { GoesWell 2 result objects.now }
+    ensures goes { GoesWell 1 result objects.now }
     ensures ongoing { IsOngoing result }
 {
     match objects.cancel_routine(x) {
@@ -142,7 +142,7 @@ fn notify(x: Obj, errand: Errand, objects: &mut ObjectPool) -> Step
     requires ready { objects.old.ready ≡ true }
     requires order { AreInOrder objects.old.pool.requests }
     ensures step { step_of result objects.new.pool ≡ request_step (Notifying x errand) objects.old.pool }
-    ensures goes { GoesWell 2 result objects.new }
+    ensures goes { GoesWell 1 result objects.new }
     ensures ongoing { IsOngoing result }
     ensures rest { objects.new ≡ record objects.old { pool = objects.new.pool; ready = objects.new.ready } }
     ensures requests { count_unreceived objects.new.pool.requests ≤ count_unreceived objects.old.pool.requests }
