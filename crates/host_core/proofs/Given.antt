@@ -162,7 +162,7 @@ given-frame (Polling limit) i p o fits ready = looks i
     looked : (b : Bool) (r : Option Ready) → FrameReady (frame_looked b r) o × (turn_places (frame_looked b r) ≤ 4)
     looked true r = (tt, omega arith)
     looked false None = (inl ready, omega arith)
-    looked false (Some r) = (tt, omega arith)
+    looked false (Some r) = (ready, omega arith)
 
     looks : (i : Input) → FrameReady (turn_given (Polling limit) i p) o × (turn_places (turn_given (Polling limit) i p) ≤ 4)
     looks (input.Ready wants) = looked (looks_again p wants) (first_ready p.ring wants)

@@ -23,7 +23,7 @@ returns-in-None-clause-step c =
     c.over.ensures.step c.args.objects.now.pool ∙ release_none plan Receive c.args.objects.now.pool (subst (IsReleaseBy plan) c.in-None.is c.release.ensures)
 
 pub returns-in-None-clause-goes : goal.returns-in-None-clause-goes
-returns-in-None-clause-goes c = more-places 2 3 c.over.result c.args.objects.now (omega arith) (c.over.ensures.goes c.args.objects.now)
+returns-in-None-clause-goes c = more-places 1 3 c.over.result c.args.objects.now (omega arith) (c.over.ensures.goes c.args.objects.now)
 
 pub returns-in-Some-clause-goes : goal.returns-in-Some-clause-goes
 returns-in-Some-clause-goes c = c.begins.ensures.goes c.args.objects.now c.requires.ready
