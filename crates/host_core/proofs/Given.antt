@@ -23,7 +23,7 @@ use Rattle.tree_specs.specs.Events.Rotation.{Ready, first_ready}
 use Rattle.tree_specs.specs.Invariants.Consistent.{IsConsistent}
 use Rattle.tree_specs.specs.Machine.Table.{call_step, outside_step}
 use Rattle.tree_specs.specs.Texts.Schedule.{misfit}
-use Rattle.tree_specs.specs.Tree.Pool.{Pool}
+use Rattle.tree_specs.specs.Tree.Pool.{Pool, ring_here}
 use Rattle.tree_specs.proofs.Calls.Plans.{may-planned-at}
 use Rattle.object_pool.specs.Objects.{Objects, RefsMayGo}
 use Rattle.host_core.specs.declared.active.Active.{Active}
@@ -165,7 +165,7 @@ given-frame (Polling limit) i p o fits ready = looks i
     looked false (Some r) = (ready, omega arith)
 
     looks : (i : Input) → FrameReady (turn_given (Polling limit) i p) o × (turn_places (turn_given (Polling limit) i p) ≤ 4)
-    looks (input.Ready wants) = looked (looks_again p wants) (first_ready p.ring wants)
+    looks (input.Ready wants) = looked (looks_again p wants) (first_ready (ring_here p) wants)
     looks _ = (tt, omega arith)
 given-frame _ i p o fits ready = cc
 
