@@ -1,6 +1,6 @@
 -- Which objects are held, and which time is the first.
 use Rattle.std.proofs.Common.{◌≡◌, ℕ, zero, suc, ◌<◌, ◌≤◌, ◌/◌, ◌-◌, get_or, List, [], ◌∷◌, length, slice_get, Option, Some, None, true, false, refl, sym, ◌∙◌, ap, arith}
-use Rattle.std.proofs.lemmas.Bool.{eqb-true, eq-eqb}
+use Rattle.std.proofs.lemmas.Bool.{eqb-true}
 use Rattle.std.proofs.lemmas.Option.{slice_get_within, slice_get-get_or}
 use Rattle.std.specs.Option.{option_map}
 use Rattle.tree_specs.specs.declared.due.Due.{Due}
@@ -49,15 +49,6 @@ module _ (ds : List Due) (P : ℕ → Option ℕ) (k : Places (slice_get ds) P) 
       go : (o : Option Due) → slice_get ds i ≡ o → option_map object_of o ≡ Some x → (d : Due) × (slice_get ds i ≡ Some d) × (d.object.0 ≡ x)
       go None u h = cc
       go (Some d) u h = (d, u, cc)
-
-  pub none-placed : (x : Obj) → is_armed ds x ≡ false → P x.0 ≡ None
-  none-placed x n = go (P x.0) refl
-    where
-      go : (o : Option ℕ) → P x.0 ≡ o → P x.0 ≡ None
-      go None e = e
-      go (Some i) e =
-          let d = due-at x.0 i e in
-          let bad : true ≡ false = sym (armed-at ds i d.0 x d.1 (eq-eqb d.0.object.0 x.0 d.2)) ∙ n in cc
 
 -- ---- the first
 

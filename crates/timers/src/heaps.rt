@@ -185,7 +185,7 @@ impl Heaps {
     }
 
     /// Drops the heap of a context. That of the first context stays.
-    pub fn drop(&mut self, c: u64)
+    pub fn remove(&mut self, c: u64)
         ensures first { self.new.first ≡ self.old.first }
         ensures others { self.new.others.pairs ≡ map.remove self.old.others.pairs c }
     {

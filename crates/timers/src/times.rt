@@ -201,7 +201,7 @@ impl Times {
         ensures contexts { self.new.contexts ≡ without_context self.old.contexts c }
         ensures spare { self.new.spare ≡ self.old.spare }
     {
-        self.heaps.drop(c.0);
+        self.heaps.remove(c.0);
         self.changes = self.changes.and(&Change::Closes(c), &());
     }
 
