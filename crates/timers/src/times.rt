@@ -205,8 +205,7 @@ impl Times {
         self.changes = self.changes.and(&Change::Closes(c), &());
     }
 
-    /// Drops a context, and all its times. The first context stays, and has no times. It takes the time of the times of
-    /// this context.
+    /// Drops a context and all its times, in as many steps as these are. The first context stays, and has no times.
     pub fn drop_context(&mut self, c: Obj)
         ensures dues { self.new.dues ≡ times_without self.old.dues c }
         ensures contexts { self.new.contexts ≡ without_context self.old.contexts c }
