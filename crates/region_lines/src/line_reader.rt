@@ -46,7 +46,7 @@ fn name_value(
     bytes: u64,
     rest: Option<&[u8]>,
 ) -> Result<PoolInput, FormFault>
-    ensures { Reads result (named_region owner bytes (words_left rest)) }
+    ensures { Reads result (named_region owner bytes (words_left rest.entry)) }
 {
     let Some(text) = rest else {
         return Err(FormFault::NoForm);

@@ -1,4 +1,5 @@
 //! Writing what is told of regions as its lines.
+ghost use Rattle.std.specs.Prelude.{◌≡◌};
 ghost use Rattle.tree_specs.specs.Texts.Text.{reply_text};
 ghost use Rattle.tree_specs.specs.Texts.Written.{Writes};
 ghost use Rattle.region_rules.specs.Lines.{added_text, reply_of};
