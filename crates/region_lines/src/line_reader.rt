@@ -36,7 +36,10 @@ fn numbered_owner(n: u64) -> Owner
 fn object_value(text: &[u8]) -> Result<Obj, FormFault>
     ensures { Reads result (object_of text.now) }
 {
-    read_number(text).map(Obj).ok_or(FormFault::NoForm)
+    match read_number(text) {
+        Some(n) => Ok(Obj(n)),
+        None => Err(FormFault::NoForm),
+    }
 }
 
 /// Reads the name of a region with this owner and so many bytes, behind which no word may follow.
@@ -51,11 +54,14 @@ fn name_value(
     let Some(text) = rest else {
         return Err(FormFault::NoForm);
     };
-    let (name, None) = split_word(text) else {
-        return Err(FormFault::NoForm);
-    };
-    let name = read_name(alloc, name, Version::Two)?;
-    Ok(PoolInput::Region { owner, bytes, name })
+    let (name, more) = split_word(text);
+    match more {
+        Some(_more) => Err(FormFault::NoForm),
+        None => {
+            let name = read_name(alloc, name, Version::Two)?;
+            Ok(PoolInput::Region { owner, bytes, name })
+        }
+    }
 }
 
 /// Reads a region: its owner, its bytes and its name.
