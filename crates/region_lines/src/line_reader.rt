@@ -5,7 +5,7 @@ ghost use Rattle.tree_specs.specs.Texts.Grammar.{object_of, strip, words};
 ghost use Rattle.tree_specs.specs.Words.Objects.{numbered_owner};
 ghost use Rattle.text_forms.specs.Cursor.{words_left};
 ghost use Rattle.text_forms.specs.Reads.{Reads};
-ghost use Rattle.region_rules.specs.Lines.{named_region, pool_input_of, region_input_of};
+ghost use Rattle.region_rules.specs.Lines.{named_region, place_input_of, pool_input_of, region_input_of, space_input_of};
 ghost use Rattle.region_rules.specs.Ranges.{is_sound_given};
 
 use region_rules::PoolInput;
@@ -77,6 +77,26 @@ fn region_value(alloc: Global, text: &[u8]) -> Result<PoolInput, FormFault>
     name_value(alloc, numbered_owner(owner), bytes, rest)
 }
 
+/// Reads the question where an object has its place.
+fn place_value(text: &[u8]) -> Result<PoolInput, FormFault>
+    ensures { Reads result (place_input_of text.now) }
+{
+    match object_value(text) {
+        Ok(x) => Ok(PoolInput::Place(x)),
+        Err(fault) => Err(fault),
+    }
+}
+
+/// Reads the question how many bytes are left in a region.
+fn space_value(text: &[u8]) -> Result<PoolInput, FormFault>
+    ensures { Reads result (space_input_of text.now) }
+{
+    match object_value(text) {
+        Ok(x) => Ok(PoolInput::Space(x)),
+        Err(fault) => Err(fault),
+    }
+}
+
 /// What a line spells that is given to a host with regions, the line without its LF: beside the lines of schedules of
 /// version 2 it may be `region P BYTES NAME`, `place X` or `space X`. NoForm exactly where it spells nothing, unless memory
 /// ran out. The length of the line isn't judged here.
@@ -88,9 +108,9 @@ pub fn read_region_line(alloc: Global, line: &[u8]) -> Result<PoolInput, FormFau
     if let Some(text) = after_front(line, b"region ") {
         region_value(alloc, text)
     } else if let Some(text) = after_front(line, b"place ") {
-        object_value(text).map(PoolInput::Place)
+        place_value(text)
     } else if let Some(text) = after_front(line, b"space ") {
-        object_value(text).map(PoolInput::Space)
+        space_value(text)
     } else {
         read_line(alloc, line, Version::Two).map(PoolInput::Host)
     }
