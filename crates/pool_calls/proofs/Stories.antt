@@ -132,10 +132,6 @@ takes-reply old new j a w none quiet fits e n =
     (subst (λ (v : PoolView). PoolTakes (view old.known [] old.host) j v) (sym n)
     (takes-replied old.known old.host j a w (ap (λ o. pool_misfit o j) quiet ∙ fits) (at-quiet old.host w old.known j quiet ∙ e)))
 
-pub on-ok : {X Y : Type 0} (r : Result X Y) (P Q : Type 0) → (P → Q) → OnOk r P → OnOk r Q
-on-ok (Ok x) P Q f h = f h
-on-ok (Err y) P Q f h = h
-
 not-less : (b : ℕ) → size_limit ≤ b → nat_lt b size_limit ≡ false
 not-less b l = go (nat_lt b size_limit) refl
   where

@@ -10,10 +10,11 @@ use Rattle.pool_arena.specs.Arena.{Held, get as held}
 use Rattle.pool_arena.proofs.Keeps.{get-with_entry}
 use Rattle.tree_specs.specs.Calls.Refusals.{size_limit}
 use Rattle.region_rules.specs.declared.place.Place.{Place}
-use Rattle.region_rules.specs.Places.{end_of, top_of, place_of, without_place, next_place, AreApart, LieWithin}
+use Rattle.region_rules.specs.Places.{top_of, place_of, without_place, next_place, LieWithin}
 use Rattle.pool_region.specs.declared.region.Spot.{Spot}
-use Rattle.pool_region.specs.Spots.{Spots, counts, counted, live, Stands, Either, HasLast, IsKept, IsRegion}
-use Rattle.pool_region.proofs.Placing.{not-eq, none-at, found-at, gone, given, stands-below, stands-on, stands-first, stands-still, left-out, top-first, top-less, apart-less}
+use Rattle.pool_region.specs.Spots.{Spots, counts, counted, live, Stands, HasLast, IsKept, IsRegion}
+use Rattle.pool_region.proofs.Placing.{none-at, found-at, gone, given, stands-on, stands-first, stands-still, left-out, top-first}
+use Rattle.region_rules.proofs.Overlapping.{top-less, apart-less}
 
 abbrev pub spots_in : Held Spot → Spots
 spots_in a = λ x. held a x

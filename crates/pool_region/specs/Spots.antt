@@ -1,5 +1,5 @@
 -- What contracts see of a region, and how it is kept: a stack of objects, and for each that has a place where it stands there.
-use Rattle.std.specs.Prelude.{◌≡◌, ℕ, ◌<◌, ◌≤◌, Bool, true, false, nat_eq, List, [], ◌∷◌, length, Option, Some, None, if◌then◌else◌}
+use Rattle.std.specs.Prelude.{◌≡◌, ℕ, ◌<◌, Bool, true, false, nat_eq, List, [], ◌∷◌, length, Option, Some, None, if◌then◌else◌}
 use Rattle.tree_specs.specs.Calls.Refusals.{size_limit}
 use Rattle.std.specs.FinMap as map
 use Rattle.pool_arena.specs.Arena.{Held, get}

@@ -48,7 +48,7 @@ without-lies k (e ∷ es) a = each (not (eq_by_cmp nat_cmp k e.0)) (without-lies
 
 -- ---- places
 
-top-less : (ps : List Place) (x : ℕ) → top_of (without_place ps x) ≤ top_of ps
+pub top-less : (ps : List Place) (x : ℕ) → top_of (without_place ps x) ≤ top_of ps
 top-less [] x = omega arith
 top-less (p ∷ ps) x = go (nat_eq p.object x) (top-less ps x)
   where
@@ -56,7 +56,7 @@ top-less (p ∷ ps) x = go (nat_eq p.object x) (top-less ps x)
     go true l = omega (arith, l)
     go false l = omega (arith, l)
 
-apart-less : (ps : List Place) (x : ℕ) → AreApart ps → AreApart (without_place ps x)
+pub apart-less : (ps : List Place) (x : ℕ) → AreApart ps → AreApart (without_place ps x)
 apart-less [] x a = a
 apart-less (p ∷ ps) x a = go (nat_eq p.object x) (apart-less ps x a.1)
   where

@@ -4,7 +4,8 @@ use Rattle.region_rules.specs.declared.added.Added.TheVariants.{Replied}
 use Rattle.region_rules.specs.declared.added.Answer.TheVariants.{No}
 use Rattle.pool_calls.specs.Pools.{PoolView}
 use Rattle.pool_calls.proofs.Refusing.{call-fits, call-untaken}
-use Rattle.pool_calls.proofs.Stories.{view, on-ok, takes-too-big, takes-small}
+use Rattle.known_regions.proofs.Sparing.{on-ok}
+use Rattle.pool_calls.proofs.Stories.{view, takes-too-big, takes-small}
 use Rattle.pool_calls.proofs.pooled.Pooled.make_region.Goals as goal
 
 pub returns-then-bytes-ge-SIZE_LIMIT-clause-ok : goal.returns-then-bytes-ge-SIZE_LIMIT-clause-ok
@@ -15,7 +16,7 @@ returns-then-bytes-ge-SIZE_LIMIT-clause-ok c =
 
 pub returns-clause-ok : goal.returns-clause-ok
 returns-clause-ok c =
-    on-ok c.pass.result _ _ (λ p. takes-small c.args.self.now c.pass.new.self c.args.owner c.args.bytes c.args.name c.requires.waits c.requires.told c.requires.rest c.if-bytes-ge-SIZE_LIMIT.false p) c.pass.ensures.ok
+    on-ok c.pass.result (λ p. takes-small c.args.self.now c.pass.new.self c.args.owner c.args.bytes c.args.name c.requires.waits c.requires.told c.requires.rest c.if-bytes-ge-SIZE_LIMIT.false p) c.pass.ensures.ok
 
 pub returns-clause-memory : goal.returns-clause-memory
 returns-clause-memory c =

@@ -5,13 +5,14 @@ use Rattle.region_rules.specs.declared.pool_input.PoolInput.{PoolInput}
 use Rattle.pool_calls.specs.Passing.{taken_given}
 use Rattle.region_rules.specs.Pooling.{space_answer}
 use Rattle.pool_calls.specs.Pools.{PoolTakes, PoolView}
-use Rattle.pool_calls.proofs.Stories.{view, on-ok, takes-input, takes-place, takes-space}
+use Rattle.known_regions.proofs.Sparing.{on-ok}
+use Rattle.pool_calls.proofs.Stories.{view, takes-input, takes-place, takes-space}
 use Rattle.pool_calls.proofs.Refusing.{taken-so}
 use Rattle.pool_calls.proofs.pooled.Pooled.offer_at_rest.Goals as goal
 
 pub returns-in-Host-clause-ok : goal.returns-in-Host-clause-ok
 returns-in-Host-clause-ok c =
-    on-ok c.pass_input.result _ _ (λ p. subst (λ (i : PoolInput). PoolTakes c.args.self.now i c.pass_input.new.self) (sym c.in-Host.is) (takes-input c.args.self.now c.pass_input.new.self c.in-Host.input c.requires.waits c.requires.told p)) c.pass_input.ensures.ok
+    on-ok c.pass_input.result (λ p. subst (λ (i : PoolInput). PoolTakes c.args.self.now i c.pass_input.new.self) (sym c.in-Host.is) (takes-input c.args.self.now c.pass_input.new.self c.in-Host.input c.requires.waits c.requires.told p)) c.pass_input.ensures.ok
 
 pub returns-in-Host-clause-taken : goal.returns-in-Host-clause-taken
 returns-in-Host-clause-taken c =
