@@ -1,6 +1,6 @@
 -- Why what is given isn't taken.
-use Rattle.std.proofs.Common.{◌≡◌, ◌↔◌, ℕ, Bool, true, false, Option, Some, None, Result, Ok, Err, IsSome, refl, sym, ◌∙◌, ap, subst}
-use Rattle.std.specs.Prelude.{is_none, List, []}
+use Rattle.std.proofs.Common.{◌≡◌, ◌↔◌, ℕ, Option, Some, None, Result, Err, sym, ◌∙◌, ap, subst}
+use Rattle.std.specs.Prelude.{[]}
 use Rattle.tree_specs.specs.declared.question.Ask.{Ask}
 use Rattle.tree_specs.specs.declared.question.Ask.TheVariants.{Quiet}
 use Rattle.tree_specs.specs.declared.question.Input.{Input}

@@ -1,18 +1,18 @@
 -- The story of a host with regions, by the laws of the host alone.
-use Rattle.std.proofs.Common.{◌≡◌, ℕ, List, [], ◌∷◌, ◌++◌, Option, Some, None, Bool, true, false, refl, sym, ◌∙◌, ap, subst}
-use Rattle.std.specs.Prelude.{slice_get, drop, nat_lt, Result, Ok, Err, OnOk, ◌≤◌, ◌<◌}
+use Rattle.std.proofs.Common.{◌≡◌, ℕ, List, [], ◌∷◌, Some, None, Bool, true, false, refl, sym, ◌∙◌, ap, subst}
+use Rattle.std.specs.Prelude.{slice_get, drop, nat_lt, ◌≤◌, ◌<◌}
 use Rattle.std.proofs.Common.{arith}
 use Rattle.std.proofs.lemmas.Bool.{ltb-true, ltb-false}
 use Rattle.tree_specs.specs.declared.object.Obj.{Obj}
 use Rattle.region_rules.specs.declared.added.Answer.TheVariants as answer
-use Rattle.machine_driver.specs.Driver.{Given, Story}
-use Rattle.machine_driver.specs.Driver.Given.{Pass, Reply}
+use Rattle.machine_driver.specs.Driver.{Story}
+use Rattle.machine_driver.specs.Driver.Given.{Pass}
 use Rattle.machine_driver.specs.Seen.{sight}
 use Rattle.machine_driver.proofs.Driving.{Begins, begins-some}
 use Rattle.tree_specs.specs.declared.call.Call.TheVariants.{New}
 use Rattle.tree_specs.specs.declared.event.Event.{Event}
 use Rattle.tree_specs.specs.declared.object.Owner.{Owner}
-use Rattle.tree_specs.specs.declared.question.Act.TheVariants.{Do, Ret}
+use Rattle.tree_specs.specs.declared.question.Act.TheVariants.{Do}
 use Rattle.tree_specs.specs.declared.question.Ask.{Ask}
 use Rattle.tree_specs.specs.declared.question.Ask.TheVariants as ask
 use Rattle.tree_specs.specs.declared.question.Input.{Input}
@@ -27,18 +27,16 @@ use Rattle.host_core.specs.Promises.{Waits, NextLaw, TakesAnswer}
 use Rattle.region_rules.specs.declared.added.Added.{Added}
 use Rattle.region_rules.specs.declared.added.Added.TheVariants.{Replied}
 use Rattle.region_rules.specs.declared.added.Answer.{Answer}
-use Rattle.region_rules.specs.declared.awaited.Awaited.{Awaited}
 use Rattle.region_rules.specs.declared.awaited.Awaited.TheVariants as awaited
 use Rattle.region_rules.specs.declared.pool_input.PoolInput.{PoolInput}
 use Rattle.region_rules.specs.declared.pool_input.PoolInput.TheVariants as given
 use Rattle.region_rules.specs.Pooling.{pooling, heard, after_input, answers, place_answer, space_answer}
 use Rattle.region_rules.specs.Regions.{Regions, after_event}
 use Rattle.region_rules.specs.Schedules.{pool_misfit}
-use Rattle.region_rules.specs.Seen.{Seen}
-use Rattle.region_rules.specs.Seen.Seen.{Passed, Extra}
+use Rattle.region_rules.specs.Seen.Seen.{Extra}
 use Rattle.machine_driver.proofs.Listening.{heard-event, heard-passed, heard-replied}
 use Rattle.pool_calls.specs.declared.event.PoolEvent.TheVariants as event
-use Rattle.pool_calls.specs.Pools.{PoolView, pool_rest, pool_question, PoolNext, PoolTakes}
+use Rattle.pool_calls.specs.Pools.{PoolView, pool_rest, PoolNext, PoolTakes}
 use Rattle.pool_calls.specs.Passing.{Passes, PassesInput, with_awaited}
 use Rattle.known_regions.specs.Kept.{awaited_given}
 

@@ -1,4 +1,4 @@
-use Rattle.std.proofs.Common.{◌∙◌, ap, List, [], ◌∷◌}
+use Rattle.std.proofs.Common.{◌∙◌, ap, [], ◌∷◌}
 use Rattle.tree_specs.specs.declared.reply.Refusal.TheVariants.{TooBig}
 use Rattle.region_rules.specs.declared.added.Added.TheVariants.{Replied}
 use Rattle.region_rules.specs.declared.added.Answer.TheVariants.{No}

@@ -1,4 +1,4 @@
-use Rattle.std.proofs.Common.{◌∙◌, ap, refl, subst, sym, List, [], ◌∷◌}
+use Rattle.std.proofs.Common.{◌∙◌, ap, refl, subst, sym, [], ◌∷◌}
 use Rattle.tree_specs.specs.Machine.View.{question_of}
 use Rattle.region_rules.specs.declared.added.Added.TheVariants.{Replied}
 use Rattle.region_rules.specs.declared.pool_input.PoolInput.{PoolInput}
