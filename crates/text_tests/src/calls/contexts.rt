@@ -1,6 +1,6 @@
 use super::{reads_none, writes_again, writes_each};
 use std::test::Fail;
-use text_forms::{read_call, write_call};
+use text_forms::{is_in_context, read_call, write_call};
 use tree_specs::{Call, Obj, Owner, Version};
 
 // Calls on contexts, as they are written.
@@ -89,6 +89,19 @@ fn a_context_is_said_from_version_2_on(rt: HostRuntime) -> Result<(), Fail> {
         assert!(rt; out.ends_with(b" 0"), "at {line:?}");
         assert_eq!(rt; &out[..out.len() - 2], line.as_bytes());
         reads_none(&rt, rt.alloc(), line, Version::Two);
+    }
+    Ok(())
+}
+
+#[test]
+fn nine_calls_say_a_context(rt: HostRuntime) -> Result<(), Fail> {
+    for line in WITHOUT_CONTEXT.lines() {
+        let call = read_call(rt.alloc(), line.as_bytes(), Version::One)?;
+        assert!(rt; is_in_context(&call), "at {line:?}");
+    }
+    for line in ["context 7", "unschedule 9", "now"] {
+        let call = read_call(rt.alloc(), line.as_bytes(), Version::Two)?;
+        assert!(rt; !is_in_context(&call), "at {line:?}");
     }
     Ok(())
 }
