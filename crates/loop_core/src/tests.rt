@@ -73,13 +73,16 @@ fn what_is_ready_comes(rt: HostRuntime) -> Result<(), Fail> {
 // One that comes soon and one with a time in the first context, and the same in another one, where the event 3 watches the
 // descriptor 7 too.
 fn in_two_contexts(rt: &HostRuntime) -> Result<Loop, Fail> {
-    let mut events = two(rt, 100)?;
+    let mut events = Loop::new(rt.alloc());
     events.add_context(Obj(9))?;
-    events.soon.reserve(1)?;
-    events.times.reserve()?;
-    events.ring.reserve(1)?;
+    events.soon.reserve(2)?;
+    events.soon.push(Obj(1), FIRST);
     events.soon.push(Obj(11), Obj(9));
+    events.times.reserve()?;
+    events.times.arm(Obj(2), 100, 2, FIRST);
+    events.times.reserve()?;
     events.times.arm(Obj(12), 50, 12, Obj(9));
+    events.ring.reserve(1)?;
     events.ring.add(Obj(3), 7, 1, Obj(9));
     Ok(events)
 }
