@@ -10,11 +10,11 @@ use Rattle.tree_specs.specs.declared.watch.Watch.{Watch}
 use Rattle.tree_specs.specs.Words.Objects.{same, is_same}
 use Rattle.tree_specs.specs.Events.Rotation.{watch_of, is_watching, unwatched, behind_all, ring_in, ring_without, lost}
 use Rattle.tree_specs.proofs.Tree.Numbered.{same-equal}
+use Rattle.tree_specs.proofs.Events.ContextLaws.{filter-filter}
 use Rattle.linked_lanes.proofs.Lanes.{by_test, eqb-self}
 use Rattle.fd_events.specs.Rotation.{object_of, AreEventsOnce, lost_one}
 use Rattle.fd_events.specs.Linked.{from_on}
 use Rattle.fd_events.proofs.Holding.{kept_if, found-kept, once-filtered, unwatched-none}
-use Rattle.fd_events.proofs.Rings.{swap}
 
 abbrev key : Watch → ℕ
 key w = w.object.0
@@ -65,13 +65,13 @@ module _ (ws : List Watch) (c x : Obj) (a : AreEventsOnce ws) where
     rest-left =
         let once : AreEventsOnce (w ∷ rest) = subst AreEventsOnce ring (once-filtered key here ws a) in
         let t : same w.object x ≡ true = same-equal w.object x own in
-        swap here (λ v. not (same v.object x)) ws ∙ ap (λ us. unwatched us x) ring
+        filter-filter here (λ v. not (same v.object x)) ws ∙ ap (λ us. unwatched us x) ring
         ∙ rw t (unwatched-none rest x (ap (is_watching rest) (sym own) ∙ once.0))
 
     others-left : filter elsewhere (unwatched ws x) ≡ filter elsewhere ws
     others-left =
         let off : kept_if elsewhere (Some w) ≡ None = (let t = own-watch.1 in rw t refl) in
-        swap elsewhere (λ v. not (same v.object x)) ws
+        filter-filter elsewhere (λ v. not (same v.object x)) ws
         ∙ unwatched-none (filter elsewhere ws) x (ap is_some (found-kept key elsewhere ws x.0 a ∙ ap (kept_if elsewhere) own-watch.0 ∙ off))
 
     lost-ring : ring_in (lost_one ws x) c ≡ rest

@@ -1,6 +1,5 @@
 -- How each event watches and the lane of each context, whatever is taken out, added or changed.
 use Rattle.std.proofs.Common.{◌≡◌, ℕ, ◌+◌, ◌≤◌, Bool, true, false, cond, ◌||◌, nat_eq, if◌then◌else◌, List, [], ◌∷◌, ◌++◌, length, map, Option, Some, None, slice_get, refl, sym, ap, ◌∙◌, arith, append_assoc}
-use Rattle.std.specs.Prelude.{not}
 use Rattle.std.specs.List.{find, filter}
 use Rattle.std.specs.Option.{option_map, option_or, option_and_then}
 use Rattle.std.proofs.lemmas.Bool.{eqb-true, eq-eqb}
@@ -12,6 +11,7 @@ use Rattle.tree_specs.specs.declared.watch.Watch.{Watch}
 use Rattle.tree_specs.specs.Words.Objects.{same, is_same}
 use Rattle.tree_specs.specs.Events.Rotation.{watch_of, is_watching, unwatched, rewatched, ring_in}
 use Rattle.tree_specs.proofs.Tree.Numbered.{same-true}
+use Rattle.tree_specs.proofs.Events.ContextLaws.{ring-unwatched}
 use Rattle.linked_lanes.specs.Lane.{has, last, last_from, is_at, without}
 use Rattle.linked_lanes.proofs.Lanes.{by_test, not_both, false_by, eqb-self, eqb-sym, without-absent}
 use Rattle.fd_events.specs.Rotation.{object_of, AreEventsOnce}
@@ -147,16 +147,9 @@ lane-joined ws w d = ap numbers_of (filter-append (λ v. is_same v.context (numb
     (λ t. let u : is_at (context_of w) d ≡ true = at-same w.context d ∙ t in rw (t, u) (numbers-joined (ring_in ws (numbered d)) w))
     (λ t. let u : is_at (context_of w) d ≡ false = at-same w.context d ∙ t in rw (t, u) (ap numbers_of (append-nil (ring_in ws (numbered d)))))
 
--- by what the tests are asked in is all one
-pub swap : (p q : Watch → Bool) (ws : List Watch) → filter p (filter q ws) ≡ filter q (filter p ws)
-swap p q [] = refl
-swap p q (w ∷ ws) = by_test (p w)
-    (λ t. by_test (q w) (λ u. rw (t, u, t) (ap (λ (zs : List Watch). w ∷ zs) (swap p q ws))) (λ u. rw (t, u) (swap p q ws)))
-    (λ t. by_test (q w) (λ u. rw (t, u, t) (swap p q ws)) (λ u. rw (t, u) (swap p q ws)))
-
 pub lane-left : (ws : List Watch) (x : Obj) (d : ℕ) → AreEventsOnce ws → lane_in (unwatched ws x) d ≡ lanes_left (lane_in ws) x.0 d
 lane-left ws x d a =
-    ap numbers_of (swap (λ w. is_same w.context (numbered d)) (λ w. not (same w.object x)) ws)
+    ap numbers_of (ring-unwatched ws x (numbered d))
     ∙ numbers-left (ring_in ws (numbered d)) x (once-filtered (λ (v : Watch). v.object.0) (λ w. is_same w.context (numbered d)) ws a)
 
 module _ (g : Watch → Watch) (objects : (w : Watch) → (g w).object ≡ w.object) (contexts : (w : Watch) → (g w).context ≡ w.context) where

@@ -5,6 +5,7 @@ use Rattle.std.specs.Option.{option_map}
 use Rattle.tree_specs.specs.declared.object.Obj.{Obj}
 use Rattle.tree_specs.specs.Words.Objects.{same}
 use Rattle.tree_specs.specs.Events.Pending.{first}
+use Rattle.tree_specs.proofs.Events.ContextLaws.{filter-filter, soon-unscheduled}
 use Rattle.linked_lanes.specs.Lane.{has, last, is_at}
 use Rattle.linked_lanes.proofs.Lanes.{by_test, false_by, is_at-same}
 use Rattle.linked_lanes.proofs.Ends.{has-last}
@@ -12,7 +13,7 @@ use Rattle.tree_specs.specs.declared.coming.Coming.{Coming}
 use Rattle.tree_specs.specs.Events.Pending.{is_scheduled, unscheduled, soon_in, soon_without}
 use Rattle.immediates.specs.Waiting.{AreOnce, object_of, next_in}
 use Rattle.immediates.specs.Linked.{numbered, one_in, lane_in, context_in}
-use Rattle.immediates.proofs.Once.{few-once, few-absent, absent-same, nobody-gone, swap, first-gone}
+use Rattle.immediates.proofs.Once.{few-once, few-absent, absent-same, nobody-gone, first-gone}
 use Rattle.immediates.proofs.Lanes.{has-append, one-has, one-other, absent-lane, soon-next}
 
 -- ---- the context of an object
@@ -84,10 +85,10 @@ out_of_others (y ∷ ys) c x a e = by_test (same y.object x)
 module _ (xs : List Coming) (c x : Obj) (a : AreOnce xs) (e : next_in xs c ≡ Some x) where
   -- what is left where it comes, and elsewhere
   pub next-here : soon_in (unscheduled xs x) c ≡ drop 1 (soon_in xs c)
-  next-here = swap (λ y. same y.context c) (λ y. not (same y.object x)) xs ∙ first-gone (soon_in xs c) x (few-once (λ y. same y.context c) xs a) e
+  next-here = soon-unscheduled xs x c ∙ first-gone (soon_in xs c) x (few-once (λ y. same y.context c) xs a) e
 
   pub next-elsewhere : soon_without (unscheduled xs x) c ≡ soon_without xs c
-  next-elsewhere = swap (λ y. not (same y.context c)) (λ y. not (same y.object x)) xs ∙ nobody-gone (soon_without xs c) x (out_of_others xs c x a (next-context xs c x a e))
+  next-elsewhere = filter-filter (λ y. not (same y.context c)) (λ y. not (same y.object x)) xs ∙ nobody-gone (soon_without xs c) x (out_of_others xs c x a (next-context xs c x a e))
 
 -- none comes next where none waits
 pub next-none : (xs : List Coming) (c : Obj) → next_in xs c ≡ None → soon_in xs c ≡ []

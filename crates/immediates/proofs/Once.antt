@@ -60,13 +60,6 @@ length-gone (y ∷ ys) x a e = by_test (same y.object x)
     (λ t. rw t (let same_rest = ap (λ (zs : List Coming). length zs) (nobody-gone ys x (absent-same ys y.object x t a.0)) in omega (arith, same_rest)))
     (λ t. let e' : is_scheduled ys x ≡ true = rw t at e in let ih = length-gone ys x a.1 e' in rw t (omega (arith, ih)))
 
--- by what the tests are asked in is all one
-pub swap : (p q : Coming → Bool) (xs : List Coming) → filter p (filter q xs) ≡ filter q (filter p xs)
-swap p q [] = refl
-swap p q (y ∷ ys) = by_test (p y)
-    (λ t. by_test (q y) (λ u. rw (t, u, t) (ap (λ (zs : List Coming). y ∷ zs) (swap p q ys))) (λ u. rw (t, u) (swap p q ys)))
-    (λ t. by_test (q y) (λ u. rw (t, u, t) (swap p q ys)) (λ u. rw (t, u) (swap p q ys)))
-
 -- the first one goes
 pub first-gone : (xs : List Coming) (x : Obj) → AreOnce xs → option_map object_of (first xs) ≡ Some x → unscheduled xs x ≡ drop 1 xs
 first-gone [] x a e = cc

@@ -11,11 +11,11 @@ use tree_specs::{Memory, Obj, WAIT_LIMIT, Wants};
 /// something comes or nothing does. No pick takes memory.
 #[derive(Drop)]
 pub struct Loop {
-    /// What comes soon, the first in first.
+    /// What comes soon, in each context the first in first.
     pub soon: Soon,
-    /// What comes at a time, the earliest first.
+    /// What comes at a time, in each context the earliest first.
     pub times: Times,
-    /// Events on descriptors, in the order in which they are looked at.
+    /// Events on descriptors, in each context in the order in which they are looked at.
     pub ring: Ring,
 }
 

@@ -7,7 +7,7 @@ use Rattle.tree_specs.specs.Events.Pending.{disarmed, is_numbered, comes_before,
 use Rattle.tree_specs.proofs.Tree.Numbered.{by_test}
 use Rattle.timers.specs.Timetable.{AreByObject}
 
-by-object-without : (ds : List Due) (x : Obj) → AreByObject ds → AreByObject (disarmed ds x)
+pub by-object-without : (ds : List Due) (x : Obj) → AreByObject ds → AreByObject (disarmed ds x)
 by-object-without [] x a = tt
 by-object-without (d ∷ ds) x a = by_test (same d.object x) (λ t. rw t (by-object-without ds x a.1)) (λ t. rw t (a.0, by-object-without ds x a.1))
 

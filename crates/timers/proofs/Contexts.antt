@@ -154,14 +154,20 @@ elsewhere-absent (d ∷ ds) c x a h = by_test (same d.context c)
     let bad : true ≡ false = sym h' ∙ few in cc)
     (λ u. rw t (rw u (elsewhere-absent ds c x a.1 h'))))
 
+-- one that leaves a context, of those that are in it
+module _ (ds : List Due) (c x : Obj) (a : AreOnce ds) (e : is_armed (times_in ds c) x ≡ true) where
+  pub gone-elsewhere : times_without (disarmed ds x) c ≡ times_without ds c
+  gone-elsewhere = filter-filter (λ f. not (same f.context c)) (λ f. not (same f.object x)) ds ∙ nobody-gone (times_without ds c) x (elsewhere-absent ds c x a e)
+
+  pub gone-fewer : length (times_in (disarmed ds x) c) + 1 ≡ length (times_in ds c)
+  gone-fewer = ap (λ (l : List Due). length l + 1) (times-disarmed ds x c) ∙ length-gone (times_in ds c) x (few-once (λ f. same f.context c) ds a) e
+
 module _ (ds : List Due) (c : Obj) (d : Due) (a : AreOnce ds) (e : slice_get (times_in ds c) 0 ≡ Some d) where
   pub first-here : times_in (disarmed ds d.object) c ≡ drop 1 (times_in ds c)
   first-here = times-disarmed ds d.object c ∙ first-gone (times_in ds c) d (few-once (λ f. same f.context c) ds a) e
 
   pub first-elsewhere : times_without (disarmed ds d.object) c ≡ times_without ds c
-  first-elsewhere =
-      filter-filter (λ f. not (same f.context c)) (λ f. not (same f.object d.object)) ds
-      ∙ nobody-gone (times_without ds c) d.object (elsewhere-absent ds c d.object a (armed-first (times_in ds c) d e))
+  first-elsewhere = gone-elsewhere ds c d.object a (armed-first (times_in ds c) d e)
 
 -- ---- a context without times
 

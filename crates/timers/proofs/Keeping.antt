@@ -94,9 +94,6 @@ module _ (h : Heaps) (m : Noted) (spare : ℕ) (first : h.first.items ≡ []) (o
 -- ---- what changes
 
 module _ (h : Heaps) (m : Noted) (dues : List Due) (contexts : List Obj) (k : AreKept (dues_in h) (is_open h) m dues contexts) where
-  pub open-context : (c : Obj) → has_context contexts c ≡ true → is_open h c.0 ≡ true
-  open-context c e = k.known c.0 ∙ e
-
   -- ---- what is noted of an object
 
   pub armed-noted : (x : Obj) → is_armed dues x ≡ is_some (map.get m x.0)
@@ -108,19 +105,6 @@ module _ (h : Heaps) (m : Noted) (dues : List Due) (contexts : List Obj) (k : Ar
 
   pub unnoted : (x : Obj) → is_armed dues x ≡ false → map.get m x.0 ≡ None
   unnoted x e = none-from (map.get m x.0) (sym (armed-noted x) ∙ e)
-
-  -- ---- the same heaps, with other room
-
-  pub keeps-same : (h' : Heaps) → ((c : ℕ) → dues_in h' c ≡ dues_in h c) → ((c : ℕ) → is_open h' c ≡ is_open h c) → AreKept (dues_in h') (is_open h') m dues contexts
-  keeps-same h' items open_ones = record {
-    ordered = k.ordered;
-    once = k.once;
-    held = k.held;
-    count = k.count;
-    heaps = λ c. same-kept (dues_in h c) (dues_in h' c) (at_in m c) (at_in m c) (items c) (λ q. refl) (k.heaps c);
-    told = λ c. ap sorted (items c) ∙ k.told c;
-    known = λ c. open_ones c ∙ k.known c;
-  }
 
   -- ---- a time that enters
 

@@ -112,6 +112,13 @@ impl Heaps {
         Some(*self.get(c)?.first()?)
     }
 
+    /// The time in the last place of the heap of a context. None exactly where there is none.
+    pub fn last(&self, c: u64) -> Option<Due>
+        ensures { result ≡ slice_get (dues_in self.now c) (length (dues_in self.now c) - 1) }
+    {
+        Some(*self.get(c)?.last()?)
+    }
+
     /// How many times a context has.
     pub fn len(&self, c: u64) -> usize
         ensures { result ≡ length (dues_in self.now c) }
@@ -192,7 +199,7 @@ impl Heaps {
     }
 
     /// Drops the heap of a context. That of the first context stays.
-    pub fn drop(&mut self, c: u64)
+    pub fn remove(&mut self, c: u64)
         ensures first { self.new.first ≡ self.old.first }
         ensures others { self.new.others.pairs ≡ map.remove self.old.others.pairs c }
         ensures spare { self.old.others.spare ≤ self.new.others.spare }

@@ -196,8 +196,8 @@ impl Times {
         ensures spare { self.old.spare ≤ self.new.spare }
         ensures contexts_spare { self.old.contexts_spare ≤ self.new.contexts_spare }
     {
-        while !self.is_empty(c) {
-            self.pop(c);
+        while let Some(x) = self.last(c) {
+            self.disarm(x);
         }
     }
 
@@ -209,11 +209,11 @@ impl Times {
         ensures spare { self.new.spare ≡ self.old.spare }
         ensures contexts_spare { self.old.contexts_spare ≤ self.new.contexts_spare }
     {
-        self.heaps.drop(c.0);
+        self.heaps.remove(c.0);
         self.changes = self.changes.and(&Change::Closes(c), &());
     }
 
-    /// Drops a context, and all its times. The first context stays, and has no times.
+    /// Drops a context and all its times, in as many steps as these are. The first context stays, and has no times.
     pub fn drop_context(&mut self, c: Obj)
         ensures dues { self.new.dues ≡ times_without self.old.dues c }
         ensures contexts { self.new.contexts ≡ without_context self.old.contexts c }

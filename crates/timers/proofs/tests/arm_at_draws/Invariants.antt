@@ -1,4 +1,4 @@
-use Rattle.std.proofs.Common.{◌≡◌, ◌<◌}
+use Rattle.std.proofs.Common.{◌<◌}
 use Rattle.timers.specs.Timetable.{AreByObject}
 use Rattle.timers.proofs.tests.arm_at_draws.Given as goal
 

@@ -1,5 +1,4 @@
-use Rattle.std.proofs.Common.{List, sym, subst, ◌∙◌}
-use Rattle.tree_specs.specs.declared.due.Due.{Due}
+use Rattle.std.proofs.Common.{sym, subst}
 use Rattle.timers.specs.Timetable.{AreByObject}
 use Rattle.timers.proofs.ByObject.{by-object-armed, free-by-object}
 use Rattle.timers.proofs.tests.arm_by_object.Goals as goal

@@ -1,9 +1,25 @@
-use Rattle.std.proofs.Common.{rules, ◌≡◌, [], sym, ◌∙◌}
-use Rattle.tree_specs.specs.Events.Pending.{times_in}
-use Rattle.timers.proofs.Contexts.{none-without}
+use Rattle.std.proofs.Common.{List, length, refl, sym, ap, ◌∙◌, arith}
+use Rattle.tree_specs.specs.declared.due.Due.{Due}
+use Rattle.tree_specs.specs.Events.Pending.{times_in, times_without}
+use Rattle.timers.proofs.Contexts.{gone-elsewhere, gone-fewer, none-without}
 use Rattle.timers.proofs.times.Times.clear.Goals as goal
 
+pub loop-x-preserved : goal.loop-x-preserved
+loop-x-preserved c =
+    let room = c.disarm.ensures.spare in
+    let before = c.loop-x.invariant.spare in
+    record {
+      elsewhere = ap (λ (ds : List Due). times_without ds c.args.c) c.disarm.ensures.dues ∙ gone-elsewhere c.loop-x.self.dues c.args.c c.in-Some.x c.in-Some.ensures.once c.in-Some.ensures.armed
+          ∙ c.loop-x.invariant.elsewhere;
+      contexts = c.disarm.ensures.contexts ∙ c.loop-x.invariant.contexts;
+      spare = omega (arith, room, before);
+    }
+
+pub loop-x-smaller : goal.loop-x-smaller
+loop-x-smaller c =
+    let fewer = gone-fewer c.loop-x.self.dues c.args.c c.in-Some.x c.in-Some.ensures.once c.in-Some.ensures.armed in
+    let left = ap (λ (ds : List Due). length (times_in ds c.args.c)) c.disarm.ensures.dues in
+    omega (arith, fewer, left)
+
 pub returns-clause-dues : goal.returns-clause-dues
-returns-clause-dues c =
-    let none : times_in c.loop-c.self.dues c.args.c ≡ [] = search rules in
-    sym (none-without c.loop-c.self.dues c.args.c none) ∙ c.loop-c.invariant.elsewhere
+returns-clause-dues c = sym (none-without c.loop-x.self.dues c.args.c (c.in_default.ensures.none refl)) ∙ c.loop-x.invariant.elsewhere
