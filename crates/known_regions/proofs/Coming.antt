@@ -1,11 +1,10 @@
 -- What comes of a change, by what is found.
-use Rattle.std.proofs.Common.{◌≡◌, ℕ, Bool, true, false, List, [], ◌∷◌, ◌++◌, Option, Some, None, refl, sym, ◌∙◌, ap}
+use Rattle.std.proofs.Common.{◌≡◌, ℕ, true, false, List, [], ◌∷◌, ◌++◌, Option, Some, None, refl, sym, ◌∙◌, ap}
 use Rattle.std.specs.Prelude.{is_some}
 use Rattle.region_rules.specs.declared.added.Added.{Added}
 use Rattle.region_rules.specs.declared.added.Added.TheVariants.{Outside, Returned}
 use Rattle.region_rules.specs.declared.awaited.Awaited.{Awaited}
-use Rattle.region_rules.specs.declared.place.Place.{Place}
-use Rattle.region_rules.specs.Regions.{Region, Regions, Outcome, object, region_at, region_below, home_of, is_over, returned_if, settled, left, outside_if, is_outgrown, place_in, grown, grown_in, gone, gone_from, marked, is_awaited, made_in, new_region, no_regions, region_made, with_region, placed_if, then_tells, without, without_region}
+use Rattle.region_rules.specs.Regions.{Region, Regions, Outcome, object, region_at, region_below, home_of, is_over, returned_if, settled, left, outside_if, is_outgrown, place_in, gone, gone_from, marked, is_awaited, made_in, new_region, no_regions, region_made, with_region, placed_if, then_tells, without, without_region}
 use Rattle.std.specs.FinMap as finite
 use Rattle.std.specs.Option.{option_map}
 use Rattle.pool_arena.proofs.NumberMaps.{none_listed}

@@ -1,6 +1,5 @@
 -- The regions that are held, listed from the map that keeps them.
-use Rattle.std.proofs.Common.{◌≡◌, ℕ, List, [], ◌∷◌, Bool, true, false, Option, Some, None, map, nat_eq, not, refl, sym, ◌∙◌, ap, cond}
-use Rattle.std.specs.List.{filter}
+use Rattle.std.proofs.Common.{◌≡◌, ℕ, List, [], ◌∷◌, Bool, true, false, Some, map, nat_eq, not, refl, sym, ◌∙◌, ap, cond}
 use Rattle.std.specs.Option.{option_map}
 use Rattle.std.specs.Ordering.{nat_cmp, eq_by_cmp}
 use Rattle.std.specs.declared.cmp.Ordering.{Ordering}
@@ -13,7 +12,7 @@ use Rattle.pool_arena.proofs.Keeps.{by_test, get-with_entry, same_pairs}
 use Rattle.pool_arena.proofs.NumberMaps as numbers
 use Rattle.known_regions.specs.declared.held.Held.{Held}
 use Rattle.known_regions.specs.Kept.{region_in, regions_in}
-use Rattle.region_rules.specs.Regions.{Region, without}
+use Rattle.region_rules.specs.Regions.{without}
 
 -- ---- the values of a list, each by a function of it
 

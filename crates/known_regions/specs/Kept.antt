@@ -1,8 +1,6 @@
 -- What is kept of regions in code: how it is seen, and that there is memory for what the replies to the open calls lead to.
 use Rattle.std.specs.Prelude.{◌≡◌, ◌≤◌, ◌<◌, ℕ, suc, true, false, List, [], ◌∷◌, length, map, Option, Some, None, if◌then◌else◌}
-use Rattle.std.specs.FinMap.{FinMap, entries, get}
-use Rattle.std.specs.Ordering.{nat_cmp}
-use Rattle.pool_arena.specs.Arena.{Held as Arena}
+use Rattle.std.specs.FinMap.{entries, get}
 use Rattle.tree_specs.specs.Calls.Refusals.{size_limit}
 use Rattle.tree_specs.specs.declared.question.Act.TheVariants.{Do}
 use Rattle.tree_specs.specs.declared.question.Input.{Input}
@@ -14,7 +12,6 @@ use Rattle.region_rules.specs.Places.{gets_place, next_place, top_of}
 use Rattle.region_rules.specs.Regions.{Region, Regions, Outcome, awaited_by, is_for}
 use Rattle.known_regions.specs.declared.held.Held.{Held}
 use Rattle.known_regions.specs.declared.places.Places.{Places}
-use Rattle.known_regions.specs.Extras.{two}
 
 -- ---- how it is seen
 

@@ -1,4 +1,3 @@
-use Rattle.std.proofs.Common.{◌≡◌, sym, ◌∙◌, ap, refl, arith, Some, None, true, false, List, [], ◌∷◌, OnOk, Ok, Err, Result}
 use Rattle.known_regions.proofs.Coming.{none-known}
 use Rattle.known_regions.proofs.known.Known.new.Goals as goal
 

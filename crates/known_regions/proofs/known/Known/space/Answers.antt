@@ -1,4 +1,4 @@
-use Rattle.std.proofs.Common.{◌≡◌, sym, ◌∙◌, ap, refl, arith, Some, None, true, false, List, [], ◌∷◌, OnOk, OnErr, Ok, Err, Result}
+use Rattle.std.proofs.Common.{◌∙◌, ap}
 use Rattle.region_rules.specs.Regions.{Regions, region_at}
 use Rattle.region_rules.specs.Pooling.{space_in}
 use Rattle.known_regions.proofs.known.Known.space.Goals as goal

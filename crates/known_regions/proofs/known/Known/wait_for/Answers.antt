@@ -1,4 +1,4 @@
-use Rattle.std.proofs.Common.{◌≡◌, sym, ◌∙◌, ap, refl, Some, None, List, [], ◌∷◌}
+use Rattle.std.proofs.Common.{◌∙◌, ap, ◌∷◌}
 use Rattle.known_regions.specs.Kept.{regions_of}
 use Rattle.region_rules.specs.Regions.{awaiting}
 use Rattle.known_regions.proofs.Sparing.{on-err}

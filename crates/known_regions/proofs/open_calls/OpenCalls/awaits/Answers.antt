@@ -1,4 +1,4 @@
-use Rattle.std.proofs.Common.{◌≡◌, sym, ◌∙◌, ap, refl, arith, Some, None, true, false, List, [], ◌∷◌, OnOk, Ok, Err, Result}
+use Rattle.std.proofs.Common.{◌∙◌, ap}
 use Rattle.std.proofs.lemmas.List.Sorted.{list_any-IsPermutation, IsPermutation-reverse}
 use Rattle.region_rules.specs.Regions.{is_awaited, is_for}
 use Rattle.known_regions.specs.Calls.{Calls}

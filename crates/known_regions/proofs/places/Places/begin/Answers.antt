@@ -1,4 +1,4 @@
-use Rattle.std.proofs.Common.{◌≡◌, sym, ◌∙◌, ap, refl, arith, Some, None, true, false, List, [], ◌∷◌, OnOk, Ok, Err, Result}
+use Rattle.std.proofs.Common.{arith}
 use Rattle.known_regions.proofs.Sparing.{begun-room}
 use Rattle.known_regions.proofs.places.Places.begin.Goals as goal
 

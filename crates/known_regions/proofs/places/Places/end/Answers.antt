@@ -1,4 +1,4 @@
-use Rattle.std.proofs.Common.{◌≡◌, sym, ◌∙◌, ap, refl, arith, Some, None, true, false, List, [], ◌∷◌, OnOk, Ok, Err, Result}
+use Rattle.std.proofs.Common.{sym, ◌∙◌, ap, List}
 use Rattle.known_regions.specs.Kept.{regions_of}
 use Rattle.known_regions.proofs.Coming.{gone-home, gone-other}
 use Rattle.region_rules.specs.Regions.{Regions, settled}

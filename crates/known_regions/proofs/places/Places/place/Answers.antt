@@ -1,10 +1,9 @@
 use Rattle.known_regions.specs.declared.places.Places.{Places}
 use Rattle.pool_arena.specs.Arena.{with_value}
-use Rattle.std.proofs.Common.{◌≡◌, sym, ◌∙◌, ap, refl, arith, Some, None, true, false, List, [], ◌∷◌, OnOk, Ok, Err, Result}
+use Rattle.std.proofs.Common.{◌≡◌, sym, ◌∙◌, refl, arith}
 use Rattle.known_regions.specs.Kept.{region_in, regions_of}
 use Rattle.known_regions.proofs.Coming.{not-placed, region-found, regions-same}
 use Rattle.known_regions.proofs.Sparing.{placed-room}
-use Rattle.region_rules.specs.declared.added.Added.{Added}
 use Rattle.known_regions.proofs.places.Places.place.Goals as goal
 
 pub returns-in-Some-take-clause-room : goal.returns-in-Some-take-clause-room

@@ -1,4 +1,4 @@
-use Rattle.std.proofs.Common.{◌≡◌, sym, ◌∙◌, ap, refl, arith, Some, None, true, false, List, [], ◌∷◌, OnOk, OnErr, Ok, Err, Result}
+use Rattle.std.proofs.Common.{sym, ◌∙◌}
 use Rattle.known_regions.specs.Kept.{regions_of}
 use Rattle.known_regions.proofs.Coming.{below-other, below-held}
 use Rattle.known_regions.proofs.places.Places.region_below.Goals as goal

@@ -1,8 +1,8 @@
-use Rattle.std.proofs.Common.{◌≡◌, sym, ◌∙◌, ap, refl, arith, Some, None, true, false, List, [], ◌∷◌, OnOk, Ok, Err, Result}
-use Rattle.known_regions.specs.Kept.{regions_of, regions_in, HasRoom}
+use Rattle.std.proofs.Common.{sym, ◌∙◌, ap, arith, ◌∷◌}
+use Rattle.known_regions.specs.Kept.{regions_in, HasRoom}
 use Rattle.std.specs.FinMap.{entries}
 use Rattle.region_rules.specs.declared.awaited.Awaited.{Awaited}
-use Rattle.std.proofs.Common.{subst, ◌+◌, ◌≤◌, length}
+use Rattle.std.proofs.Common.{subst}
 use Rattle.known_regions.proofs.Sparing.{place-room, same-room, on-ok}
 use Rattle.known_regions.proofs.places.Places.reserve.Goals as goal
 

@@ -1,8 +1,7 @@
 use Rattle.known_regions.specs.declared.held.Held.{Held}
 use Rattle.known_regions.specs.declared.places.Places.{Places}
 use Rattle.pool_arena.specs.Arena.{with_value}
-use Rattle.std.proofs.Common.{◌≡◌, sym, ◌∙◌, ap, refl, arith, Some, None, true, false, List, [], ◌∷◌, OnOk, Ok, Err, Result}
-use Rattle.known_regions.specs.Kept.{region_in, regions_of}
+use Rattle.std.proofs.Common.{sym, refl, arith}
 use Rattle.known_regions.proofs.Coming.{regions-same}
 use Rattle.known_regions.proofs.Sparing.{written-room, written-places, on-ok}
 use Rattle.known_regions.proofs.places.Places.reserve_places.Goals as goal

@@ -1,6 +1,5 @@
 use Rattle.known_regions.specs.declared.places.Places.{Places}
-use Rattle.pool_arena.specs.Arena.{with_value}
-use Rattle.std.proofs.Common.{◌≡◌, sym, ◌∙◌, ap, refl, arith, Some, None, true, false, List, [], ◌∷◌, OnOk, Ok, Err, Result}
+use Rattle.std.proofs.Common.{sym, ◌∙◌, refl, arith}
 use Rattle.known_regions.specs.Kept.{regions_of}
 use Rattle.known_regions.proofs.Coming.{not-over, over, regions-removed}
 use Rattle.known_regions.proofs.Sparing.{removed-room}

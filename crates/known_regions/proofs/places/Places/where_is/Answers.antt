@@ -1,4 +1,4 @@
-use Rattle.std.proofs.Common.{sym, ◌∙◌, ap, refl, Some, None, true, false, List}
+use Rattle.std.proofs.Common.{sym, ◌∙◌, ap}
 use Rattle.known_regions.specs.Kept.{regions_of}
 use Rattle.region_rules.specs.Pooling.{where_is}
 use Rattle.known_regions.proofs.places.Places.where_is.Goals as goal
