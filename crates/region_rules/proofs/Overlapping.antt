@@ -1,6 +1,6 @@
 -- No two places of a region overlap, and all lie within its bytes: each event keeps it so.
 use Rattle.std.proofs.Common.{◌≡◌, ℕ, ◌+◌, ◌≤◌, List, [], ◌∷◌, Option, Some, None, Bool, true, false, nat_eq, not, refl, arith, cond}
-use Rattle.std.specs.Prelude.{max, nat_lt, if◌then◌else◌}
+use Rattle.std.specs.Prelude.{max, if◌then◌else◌}
 use Rattle.std.proofs.lemmas.Bool.{and_parts, leb-true}
 use Rattle.std.specs.Ordering.{nat_cmp, eq_by_cmp}
 use Rattle.std.specs.FinMap.Entries.{find, put, by_order}
@@ -15,7 +15,7 @@ use Rattle.region_rules.specs.declared.awaited.Awaited.TheVariants as awaited
 use Rattle.region_rules.specs.declared.place.Place.{Place}
 use Rattle.region_rules.specs.Places.{end_of, top_of, without_place, next_place, gets_place, AreApart}
 use Rattle.region_rules.specs.Within.{Lies, AllLie}
-use Rattle.region_rules.specs.Regions.{Region, Regions, region_at, home_of, answered, placed_if, made_in, new_region, region_made, is_awaited, is_over, returned_if, settled, left, left_by, outside_if, is_outgrown, place_in, grown_in, replied_to, gone_from, marked, marked_by, freed_region, with_region, with_places, without, without_region, without_home, gone, after_event}
+use Rattle.region_rules.specs.Regions.{Region, Regions, region_at, home_of, answered, placed_if, made_in, new_region, region_made, is_awaited, is_over, returned_if, settled, left, left_by, outside_if, is_outgrown, place_in, grown_in, replied_to, gone_from, marked, marked_by, freed_region, with_region, with_places, without, gone, after_event}
 
 abbrev pub LiesIf : Option Region → Type 0
 LiesIf None = Unit {0}

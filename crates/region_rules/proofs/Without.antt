@@ -26,7 +26,6 @@ use Rattle.region_rules.specs.declared.added.Added.TheVariants.{Replied}
 use Rattle.region_rules.specs.declared.added.Answer.{Answer}
 use Rattle.region_rules.specs.declared.awaited.Awaited.{Awaited}
 use Rattle.region_rules.specs.declared.awaited.Awaited.TheVariants as awaited
-use Rattle.region_rules.specs.declared.place.Place.{Place}
 use Rattle.region_rules.specs.declared.pool_input.PoolInput.{PoolInput}
 use Rattle.region_rules.specs.declared.pool_input.PoolInput.TheVariants as given
 use Rattle.region_rules.specs.Places.{gets_place}
