@@ -1,7 +1,6 @@
 -- The words of a region, and the number of an object.
 use Rattle.std.proofs.Common.{◌≡◌, ℕ, List, [], ◌∷◌, ◌++◌, Option, Some, None, Result, codes, refl, sym, ◌∙◌, ap, subst}
 use Rattle.std.specs.Prelude.{if◌then◌else◌}
-use Rattle.tree_specs.specs.declared.object.Obj.{Obj}
 use Rattle.tree_specs.specs.declared.object.Owner.{Owner}
 use Rattle.tree_specs.specs.Calls.Spelling.Numeral.{Number}
 use Rattle.tree_specs.specs.Texts.Grammar.{◌>>=◌, ◌or◌, input_of, numeral_of, number_of, object_of, strip, words}
