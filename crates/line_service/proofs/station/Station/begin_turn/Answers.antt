@@ -4,4 +4,5 @@ use Rattle.line_service.proofs.station.Station.begin_turn.Goals as goal
 pub returns : goal.returns
 returns c =
     turn-begun c.args.self.now c.self.inside.desk.knowledge c.self.inside.host c.self.inside.desk.due c.self.inside.left c.self.view_is c.give.new.host c.give.new.left c.give.result c.self.invariant c.requires.quiet c.requires.waits c.requires.complete
-    c.give.ensures.ok c.give.ensures.host c.give.ensures.left
+    (subst (λ (o : Obj). OnOk c.give.result (Gives c.self.inside.host c.self.inside.left (input.Call (call.Turn o)) c.give.new.host c.give.new.left)) c.first_context.ensures c.give.ensures.ok)
+    c.give.ensures.host c.give.ensures.left
