@@ -1,6 +1,6 @@
 //! The heaps of all contexts, each under the number of its context. That of the first context, which has the number 0,
 //! stands in place, so that whoever needs no other one looks nothing up and takes no memory for it.
-ghost use Rattle.std.specs.Prelude.{◌≡◌, ◌<◌, ◌≤◌, ℕ, [], false, true, nat_eq, None, OnOk, is_some, length, option_copied, slice_get, vec_capacity, vec_len};
+ghost use Rattle.std.specs.Prelude.{◌≡◌, ◌<◌, ◌≤◌, ◌-◌, ℕ, [], false, true, nat_eq, None, OnOk, is_some, length, option_copied, slice_get, vec_capacity, vec_len};
 ghost use Rattle.std.specs.FinMap as map;
 ghost use Rattle.timers.specs.Heaps.{CanEnter, CanLeave, IsAdded, IsEntered, IsLeft, dues_in, heap_of, is_open, items_of, room_in, room_of};
 

@@ -46,7 +46,7 @@ impl Model for Times {
 }
 
 impl Times {
-    ghost use Rattle.std.specs.Prelude.{◌<◌, ◌≤◌, ◌↔◌, [], IsTrue, OnOk, length, slice_get, drop, false, true};
+    ghost use Rattle.std.specs.Prelude.{◌<◌, ◌≤◌, ◌↔◌, [], IfSome, IsTrue, OnOk, length, slice_get, drop, false, true};
     ghost use Rattle.tree_specs.specs.Events.Pending.{armed, disarmed, is_armed, is_numbered, put_in, times_in, times_without};
     ghost use Rattle.tree_specs.specs.Events.Contexts.{has_context, with_context, without_context};
     ghost use Rattle.timers.specs.Timetable.{AreInOrder, AreOnce, left_after};
@@ -186,6 +186,15 @@ impl Times {
             self.disarm(due.object);
         }
         first
+    }
+
+    /// An object whose time in a context leaves in one step. None exactly where there is none.
+    fn last(&self, c: Obj) -> Option<Obj>
+        ensures armed { IfSome result (λ x. is_armed (times_in self.now.dues c) x ≡ true) }
+        ensures none { result ≡ None → times_in self.now.dues c ≡ [] }
+        ensures once { AreOnce self.now.dues }
+    {
+        Some(self.heaps.last(c.0)?.object)
     }
 
     /// Takes out all times of a context, which stays.
