@@ -3,8 +3,4 @@
 #![tactic(auto)]
 
 #[cfg(test)]
-mod calls;
-#[cfg(test)]
-mod schedules;
-#[cfg(test)]
-mod transcripts;
+mod tests;

@@ -3,6 +3,4 @@
 #![tactic(auto)]
 
 #[cfg(test)]
-mod freeing;
-#[cfg(test)]
-mod rows;
+mod tests;

@@ -1,6 +1,6 @@
 use Rattle.destructors.specs.Engine.{IsAsked}
 use Rattle.destructors.proofs.Resting.{asked, answered-room}
-use Rattle.tree_tests.proofs.freeing.World.ask.Goals as goal
+use Rattle.tree_tests.proofs.tests.freeing.World.ask.Goals as goal
 
 pub answer-requires-clause-asked : goal.answer-requires-clause-asked
 answer-requires-clause-asked g c =

@@ -5,7 +5,7 @@ use Rattle.references.specs.Rows.{AreRefsOf}
 use Rattle.references.proofs.Rows.{refs-same, same-changed}
 use Rattle.tree_links.specs.Links.{pool_of}
 use Rattle.destructors.proofs.Resting.{hooked-rests}
-use Rattle.tree_tests.proofs.freeing.World.hook.Goals as goal
+use Rattle.tree_tests.proofs.tests.freeing.World.hook.Goals as goal
 
 pub returns : goal.returns
 returns g c = record {

@@ -4,7 +4,7 @@ use Rattle.tree_links.specs.Links.{pool_of}
 use Rattle.references.proofs.Rows.{refs-added}
 use Rattle.destructors.specs.Works.{AreAwaiting}
 use Rattle.destructors.proofs.Resting.{added-rests}
-use Rattle.tree_tests.proofs.freeing.World.add.Goals as goal
+use Rattle.tree_tests.proofs.tests.freeing.World.add.Goals as goal
 
 pub returns : goal.returns
 returns g c = record {

@@ -1,0 +1,3 @@
+//! Tests of the tree, crate by crate.
+mod freeing;
+mod rows;
