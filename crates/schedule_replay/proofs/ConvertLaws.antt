@@ -1,6 +1,6 @@
 -- What a line, and the end of a schedule, do to a conversion, and what it writes and answers.
 use Rattle.std.proofs.Common.{◌≡◌, ℕ, ◌+◌, ◌≤◌, Bool, true, false, cond, List, [], ◌∷◌, ◌++◌, length, Option, Some, None, Result, Ok, Err, refl, sym, ap, subst, ◌∙◌, append_assoc, arith}
-use Rattle.std.specs.Prelude.{IfSome, flat_map}
+use Rattle.std.specs.Prelude.{IfSome}
 use Rattle.std.specs.Option.{option_map}
 use Rattle.std.proofs.lemmas.List.{append-nil}
 use Rattle.tree_specs.specs.declared.question.Input.{Input}
@@ -12,12 +12,12 @@ use Rattle.tree_specs.specs.declared.schedule.Version.TheVariants.{Two}
 use Rattle.tree_specs.specs.Texts.Grammar.{input_of}
 use Rattle.tree_specs.specs.Texts.Lines.{Line, lines, is_over_limit, line_limit, lines_limit}
 use Rattle.tree_specs.specs.Texts.Runners.{header_reason, runner_after, judged_lines}
-use Rattle.tree_specs.specs.Texts.Schedule.{header_of, header_text}
-use Rattle.tree_specs.specs.Texts.Text.{input_text, newline}
+use Rattle.tree_specs.specs.Texts.Schedule.{header_of}
+use Rattle.tree_specs.specs.Texts.Text.{input_text}
 use Rattle.line_pieces.specs.Cuts.{ended_line}
 use Rattle.line_pieces.specs.Takings.{TakesLine, last_lines}
 use Rattle.schedule_text.specs.Converted.{IsConverted as TurnsInto}
-use Rattle.schedule_versions.specs.Conversions.{converted, converted_lines, header_at, lines_text, shape, shaper, shapers}
+use Rattle.schedule_versions.specs.Conversions.{converted, converted_lines, header_at, lines_text, shaper, shapers}
 use Rattle.schedule_replay.specs.declared.conversion.Conversion.{Conversion}
 use Rattle.schedule_replay.specs.declared.ran.Ran.{Ran}
 use Rattle.schedule_replay.specs.declared.ran.Ran.TheVariants as rans
@@ -28,7 +28,7 @@ use Rattle.schedule_replay.specs.Converts.{Converts, IsOfWhole}
 use Rattle.schedule_replay.specs.Played.{Plays}
 use Rattle.schedule_replay.specs.Players.{IsInFront, stops}
 use Rattle.schedule_replay.specs.Replays.{Replayed, behind, with_front, replayed_lines, BeginsText, StopsWith}
-use Rattle.schedule_replay.specs.Standings.{Standing, runner_of, Follows, once}
+use Rattle.schedule_replay.specs.Standings.{Standing, Follows, once}
 use Rattle.schedule_replay.proofs.TextLaws.{begins_behind, begins_it, front-nil, front-front}
 use Rattle.schedule_replay.proofs.RunLaws.{accepts, refuses-so, no-more-so, no-input, cut-input, limit-input, not-over}
 use Rattle.schedule_replay.proofs.HeaderLaws.{headerless, headless, not-accepted, nothing-written}

@@ -1,5 +1,5 @@
 -- Reading a schedule piece by piece, and writing what is played of it, whatever plays its lines.
-use Rattle.std.proofs.Common.{◌≡◌, ◌≤◌, ℕ, List, [], ◌∷◌, ◌++◌, take, Option, Some, None, Result, Ok, Err, refl, sym, ap, subst, ◌∙◌, append_assoc}
+use Rattle.std.proofs.Common.{◌≡◌, ◌≤◌, ℕ, List, [], ◌++◌, take, Option, Some, None, Result, Ok, Err, refl, sym, ap, subst, ◌∙◌, append_assoc}
 use Rattle.std.specs.Prelude.{IfSome}
 use Rattle.std.specs.Borrow.{Bor}
 use Rattle.std.specs.Io.KnownBytes.{Appends, Consumes, IsAtEnd, Keeps}
@@ -15,7 +15,7 @@ use Rattle.line_pieces.specs.Takings.{EndsWith}
 use Rattle.line_pieces.proofs.Feeding.{after-piece, no-bytes}
 use Rattle.schedule_replay.specs.declared.stop.Stop.{Stop}
 use Rattle.schedule_replay.specs.declared.stop.Stop.TheVariants as errors
-use Rattle.schedule_replay.specs.Passes.{stop_of_put, StopsPut, IsFresh, Passed, PassesPiece, PassesSome, TakesEnd, PassesEnd}
+use Rattle.schedule_replay.specs.Passes.{stop_of_put, StopsPut, Passed, PassesPiece, PassesSome, TakesEnd, PassesEnd}
 use Rattle.schedule_replay.specs.Played.{Plays, PlaysWhole, ran_of}
 use Rattle.schedule_replay.specs.Players.{IsEmptied, IsInFront, stops, ends}
 use Rattle.schedule_replay.specs.Replays.{Replayed, with_front, BeginsText, StopsWith}

@@ -1,5 +1,5 @@
 -- A whole replay, in the words of schedules and transcripts: their first line says what runs the others.
-use Rattle.std.proofs.Common.{◌≡◌, ℕ, suc, ◌<◌, ◌≤◌, Bool, true, false, cond, ltb, ◌||◌, ◌⊎◌, inl, inr, List, [], ◌∷◌, ◌++◌, length, Option, Some, None, refl, sym, ap, subst, ◌∙◌, arith}
+use Rattle.std.proofs.Common.{◌≡◌, ℕ, suc, ◌≤◌, Bool, true, false, cond, ◌⊎◌, inl, inr, List, [], ◌∷◌, ◌++◌, length, Option, Some, None, refl, sym, ap, subst, ◌∙◌, arith}
 use Rattle.std.specs.Io.KnownBytes.{Appends, IsAtEnd}
 use Rattle.std.specs.Option.{option_map}
 use Rattle.std.specs.Prelude.{IfSome}
@@ -9,7 +9,6 @@ use Rattle.tree_specs.specs.declared.schedule.Header.{Header}
 use Rattle.tree_specs.specs.declared.schedule.Mode.{Mode}
 use Rattle.tree_specs.specs.declared.schedule.Mode.TheVariants.{Pool, Service}
 use Rattle.tree_specs.specs.declared.schedule.Version.{Version}
-use Rattle.tree_specs.specs.declared.schedule.Version.TheVariants.{One, Two}
 use Rattle.tree_specs.specs.declared.schedule.Reason.{Reason}
 use Rattle.tree_specs.specs.declared.schedule.Reason.TheVariants.{Limit, Form}
 use Rattle.tree_specs.specs.declared.question.Input.{Input}
@@ -20,7 +19,7 @@ use Rattle.tree_specs.specs.Rules.Story.{story, items}
 use Rattle.tree_specs.specs.Texts.Grammar.{input_of}
 use Rattle.tree_specs.specs.Texts.Lines.{Line, lines, is_over_limit, line_limit}
 use Rattle.tree_specs.specs.Texts.Runners.{Runner, header_reason, runner_after, judged_lines, transcript_by, transcript_lines}
-use Rattle.tree_specs.specs.Texts.Schedule.{header_of, header_text, says, misfit, runner_by, pool_runner}
+use Rattle.tree_specs.specs.Texts.Schedule.{header_of, says, misfit, runner_by, pool_runner}
 use Rattle.tree_specs.specs.Texts.Text.{header, item_text, body_text, end_text}
 use Rattle.tree_specs.proofs.Rules.StoryLaws.{story-items, story-strays, story-asks}
 use Rattle.machine_driver.specs.Driver.{driven, items_or_none}
