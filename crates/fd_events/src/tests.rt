@@ -340,7 +340,7 @@ fn the_events_of_a_dropped_context_are_lost(rt: HostRuntime) -> Result<(), Fail>
     assert!(rt; (here == 11) & (there == 0));
     assert!(rt; (ring.len(Obj(9)) == 0) & (ring.total() == 3));
     assert_eq!(rt; number(ring.holder(2)), 12);
-    let lost = ring.remove(Obj(12)).unwrap();
+    let lost = ring.remove(Obj(12)).expect(&rt, "a lost event");
     assert!(rt; lost.context.is_none() & (ring.total() == 2));
     Ok(())
 }

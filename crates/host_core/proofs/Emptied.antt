@@ -126,8 +126,8 @@ not-live : (rs : List Row) (x : Obj) → 0 < x.0 → Distinct rs → is_live_con
 not-live rs x above distinct live = by_test (same x first_context)
     (λ t. let e = ap (λ (z : Obj). z.0) (same-true x first_context t) in omega (arith, e, above))
     (λ t. let live' : is_live_context_row (row_of (without rs x) x) ≡ true = rw t at live in
-        let bad : false ≡ true = rw (row_of-without-same rs x distinct) at live' in
-        cc)
+    let bad : false ≡ true = rw (row_of-without-same rs x distinct) at live' in
+    cc)
 
 pub may-forget : (works : List FreeFrame) (ws : List Waiting) (p : Pool) → IsConsistent (freeing_view works ws p) → MayForget (moves works p).0 (upcoming_in p)
 may-forget [] ws p h = tt

@@ -56,7 +56,7 @@ fn watching(alloc: Global) -> Result<Loop, Fail> {
 // What is picked in a context where the descriptor 7 is ready for this.
 fn picked(alloc: Global, events: &Loop, c: Obj, flags: u32) -> Result<Option<Pick>, Fail> {
     let list = Wants::make(vec![in alloc; Want { fd: 7, flags }]?);
-    Ok(list.map(|list| events.ready(FIRST, &list)))
+    Ok(list.map(|list| events.ready(c, &list)))
 }
 
 #[test]
