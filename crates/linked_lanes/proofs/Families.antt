@@ -15,31 +15,12 @@ none-has : (xs : List ℕ) → ((q : ℕ) → has xs q ≡ false) → xs ≡ []
 none-has [] h = refl
 none-has (x ∷ xs) h = let e : has (x ∷ xs) x ≡ true = rw (eqb-self x) refl in not_both e (h x)
 
--- ---- the ends are whole
-
+-- the ends that tell a lane are whole
 pub told-whole : (C : ℕ → Option Sides) (e : Extent) (xs : List ℕ) → IsTold C e xs → IsWhole e
 told-whole C e xs t = record {
   newest = rw (t.chain.at_head, t.count) (some-first xs);
   oldest = rw (t.at_last, t.count) (some-last xs);
 }
-
-pub no_ends-whole : IsWhole no_ends
-no_ends-whole = record {
-  newest = (λ h. cc, λ h. absurd (omega (arith, h)));
-  oldest = (λ h. cc, λ h. absurd (omega (arith, h)));
-}
-
-pub joined-whole : (x : ℕ) (e : Extent) → IsWhole (joined_by x e)
-joined-whole x e = record {
-  newest = (λ h. omega arith, λ h. refl);
-  oldest = (λ h. omega arith, λ h. some e.oldest);
-}
-  where
-    some : (o : Option ℕ) → IsSome (option_or o (Some x))
-    some None = refl
-    some (Some y) = refl
-
--- ---- the lanes of a family
 
 -- the same lanes, in other words
 pub same-family : (K : ℕ → Option ℕ) (C : ℕ → Option Sides) (E : ℕ → Option Extent) (F F' : ℕ → List ℕ) → ((c : ℕ) → F' c ≡ F c) → Family K C E F → Family K C E F'
