@@ -1,5 +1,5 @@
 -- What each change leaves of what is kept.
-use Rattle.std.proofs.Common.{find, ◌≡◌, ℕ, ◌+◌, ◌-◌, Bool, true, false, cond, nat_eq, if◌then◌else◌, List, [], ◌∷◌, ◌++◌, Option, Some, None, is_some, refl, sym, ap, subst, ◌∙◌, arith}
+use Rattle.std.proofs.Common.{find, ◌≡◌, ℕ, suc, ◌+◌, ◌-◌, ◌<◌, ◌||◌, Bool, true, false, cond, nat_eq, if◌then◌else◌, List, [], ◌∷◌, ◌++◌, length, Option, Some, None, IsSome, is_some, refl, sym, ap, subst, ◌∙◌, arith}
 use Rattle.std.proofs.lemmas.Bool.{eqb-true}
 use Rattle.std.proofs.lemmas.List.{length-append, length-map}
 use Rattle.std.specs.Prelude.{not}
@@ -11,12 +11,13 @@ use Rattle.pool_arena.specs.Arena.{Held}
 use Rattle.pool_arena.proofs.Keeps.{get-with_entry}
 use Rattle.tree_specs.specs.declared.object.Obj.{Obj}
 use Rattle.tree_specs.specs.declared.watch.Watch.{Watch}
-use Rattle.tree_specs.specs.Words.Objects.{same}
+use Rattle.tree_specs.specs.Words.Objects.{same, first_context}
 use Rattle.tree_specs.specs.Events.Rotation.{watch_of, is_watching, is_watched, unwatched, rewatched, turned_back, behind_all, ring_in, lost}
+use Rattle.linked_lanes.specs.declared.Sides.{Sides}
 use Rattle.linked_lanes.specs.declared.lane.Extent.{Extent}
-use Rattle.linked_lanes.specs.Lane.{has}
+use Rattle.linked_lanes.specs.Lane.{has, is_at, without}
 use Rattle.linked_lanes.specs.Family.{Family, no_ends}
-use Rattle.linked_lanes.proofs.Lanes.{by_test, not_both, false_by, eqb-self, length-without}
+use Rattle.linked_lanes.proofs.Lanes.{by_test, not_both, false_by, eqb-self, eqb-sym, length-without, has-without-same}
 use Rattle.linked_lanes.proofs.Families.{found-count, left-whole, stands, stands_nowhere, grown-family, shrunk-family}
 use Rattle.lane_ends.specs.Lanes.{Ends, Lanes, without_lane}
 use Rattle.fd_events.specs.declared.node.Node.{Node}
@@ -24,11 +25,11 @@ use Rattle.fd_events.specs.declared.lane.Lane.{Lane}
 use Rattle.fd_events.specs.declared.change.Change.{Change}
 use Rattle.tree_specs.specs.Events.Contexts.{has_context, without_context}
 use Rattle.tree_specs.proofs.Events.KnownContexts.{opened-kept, closed-kept, closed-first-kept}
-use Rattle.fd_events.specs.Rotation.{lost_one}
+use Rattle.fd_events.specs.Rotation.{AreEventsOnce, lost_one}
 use Rattle.fd_events.specs.Changes.{changed, recontexted, watches_of, contexts_of}
-use Rattle.fd_events.specs.Linked.{numbered, number_of, sides_of, stamp_of, sides_at, watch_at, watching, with_loss, context_of, context_in, numbers_of, lane_in, placed, lanes_joined, lanes_left, CanLeave, HasFewer, OnContext, is_there, IsLane, IsKept}
+use Rattle.fd_events.specs.Linked.{numbered, number_of, sides_of, stamp_of, sides_at, stamp_at, watch_at, watching, with_loss, context_of, context_in, numbers_of, lane_in, placed, lanes_joined, lanes_left, CanLeave, HasFewer, OnContext, is_there, IsLane, AreHolders, IsKept}
 use Rattle.fd_events.proofs.Nodes.{sides-put, stamp-put, watch-put, read-changed, read-same}
-use Rattle.fd_events.proofs.Holding.{none, once-added, once-filtered, once-changed, gone-fd, holders-added, holders-gone, holders-changed, holders-again, is-free}
+use Rattle.fd_events.proofs.Holding.{none, once-added, once-filtered, once-changed, watch-object, gone-fd, holders-added, holders-gone, holders-changed, holders-again, is-free}
 use Rattle.fd_events.proofs.Lanes.{lane-is, lane-nodes, lane-nowhere}
 use Rattle.fd_events.proofs.Rings.{watch-joined, watch-left, watch-changed, context-joined, context-left, context-changed, lane-joined, lane-left, lane-changed, lane-length, length-gone}
 use Rattle.fd_events.proofs.Changes.{watches-noted, contexts-noted}
@@ -81,8 +82,7 @@ module _ (l : Lane) (h : Holders) (ws : List Watch) (cs : List Obj) (k : IsKept 
         go : (o : Option Obj) → context_in ws x.0 ≡ option_map number_of o → OnContext (CanLeave l.ends.lanes v.sides) o
         go None e = tt
         go (Some c) e =
-            let p = some-from (map.get l.ends.lanes c.0) (k.lane.family.known c.0 x.0 e) in
-            (
+            let p = some-from (map.get l.ends.lanes c.0) (k.lane.family.known c.0 x.0 e) in (
               p.0,
               p.1,
               found-count (context_in ws) (sides_at l.nodes.pairs) (map.get l.ends.lanes) (lane_in ws) k.lane.family x.0 c.0 v.sides p.0 e sides-there p.1,

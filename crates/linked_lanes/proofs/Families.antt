@@ -5,7 +5,7 @@ use Rattle.std.specs.Option.{option_map, option_or}
 use Rattle.linked_lanes.specs.declared.Sides.{Sides}
 use Rattle.linked_lanes.specs.declared.lane.Extent.{Extent}
 use Rattle.linked_lanes.specs.Lane.{is_at, has, without, Distinct}
-use Rattle.linked_lanes.specs.Chain.{sides_in, last_left}
+use Rattle.linked_lanes.specs.Chain.{Chain, sides_in, last_left}
 use Rattle.linked_lanes.specs.Family.{Family, IsTold, IsWhole, no_ends, joined_by, left_by}
 use Rattle.linked_lanes.proofs.Lanes.{by_test, not_both, false_by, eqb-self, is_at-same, without-absent, has-without-other, has-without-same, Distinct-without, length-without}
 use Rattle.linked_lanes.proofs.Chains.{newer_as, older_as, kept_chain, stays, left-chain, left-other, added-chain, added-other}
