@@ -18,7 +18,7 @@ use Rattle.linked_lanes.specs.declared.lane.Extent.{Extent}
 use Rattle.linked_lanes.specs.Lane.{has, is_at, without}
 use Rattle.linked_lanes.specs.Family.{Family, no_ends}
 use Rattle.linked_lanes.proofs.Lanes.{by_test, not_both, false_by, eqb-self, eqb-sym, length-without, has-without-same}
-use Rattle.linked_lanes.proofs.Families.{found-count, stands, stands_nowhere, grown-family, shrunk-family}
+use Rattle.linked_lanes.proofs.Families.{found-count, left-whole, stands, stands_nowhere, grown-family, shrunk-family}
 use Rattle.lane_ends.specs.Lanes.{Ends, Lanes, without_lane}
 use Rattle.fd_events.specs.declared.node.Node.{Node}
 use Rattle.fd_events.specs.declared.lane.Lane.{Lane}
@@ -27,7 +27,7 @@ use Rattle.tree_specs.specs.Events.Contexts.{has_context, without_context}
 use Rattle.tree_specs.proofs.Events.KnownContexts.{opened-kept, closed-kept, closed-first-kept}
 use Rattle.fd_events.specs.Rotation.{AreEventsOnce, lost_one}
 use Rattle.fd_events.specs.Changes.{changed, recontexted, watches_of, contexts_of}
-use Rattle.fd_events.specs.Linked.{numbered, number_of, sides_of, stamp_of, sides_at, stamp_at, watch_at, watching, with_loss, context_of, context_in, numbers_of, lane_in, placed, lanes_joined, lanes_left, HasSome, HasFewer, OnContext, is_there, IsLane, AreHolders, IsKept}
+use Rattle.fd_events.specs.Linked.{numbered, number_of, sides_of, stamp_of, sides_at, stamp_at, watch_at, watching, with_loss, context_of, context_in, numbers_of, lane_in, placed, lanes_joined, lanes_left, CanLeave, HasFewer, OnContext, is_there, IsLane, AreHolders, IsKept}
 use Rattle.fd_events.proofs.Nodes.{sides-put, stamp-put, watch-put, read-changed, read-same}
 use Rattle.fd_events.proofs.Holding.{none, once-added, once-filtered, once-changed, watch-object, gone-fd, holders-added, holders-gone, holders-changed, holders-again, is-free}
 use Rattle.fd_events.proofs.Lanes.{lane-is, lane-nodes, lane-nowhere}
@@ -76,14 +76,18 @@ module _ (l : Lane) (h : Holders) (ws : List Watch) (cs : List Obj) (k : IsKept 
     pub sides-there : sides_at l.nodes.pairs x.0 ≡ Some v.sides
     sides-there = ap (option_map sides_of) found
 
-    pub has-some : OnContext (HasSome l.ends.lanes) v.context
-    has-some = go v.context context-there
+    pub can-leave : OnContext (CanLeave l.ends.lanes v.sides) v.context
+    can-leave = go v.context context-there
       where
-        go : (o : Option Obj) → context_in ws x.0 ≡ option_map number_of o → OnContext (HasSome l.ends.lanes) o
+        go : (o : Option Obj) → context_in ws x.0 ≡ option_map number_of o → OnContext (CanLeave l.ends.lanes v.sides) o
         go None e = tt
         go (Some c) e =
-            let p = some-from (map.get l.ends.lanes c.0) (k.lane.family.known c.0 x.0 e) in
-            (p.0, p.1, found-count (context_in ws) (sides_at l.nodes.pairs) (map.get l.ends.lanes) (lane_in ws) k.lane.family x.0 c.0 v.sides p.0 e sides-there p.1)
+            let p = some-from (map.get l.ends.lanes c.0) (k.lane.family.known c.0 x.0 e) in (
+              p.0,
+              p.1,
+              found-count (context_in ws) (sides_at l.nodes.pairs) (map.get l.ends.lanes) (lane_in ws) k.lane.family x.0 c.0 v.sides p.0 e sides-there p.1,
+              left-whole (context_in ws) (sides_at l.nodes.pairs) (map.get l.ends.lanes) (lane_in ws) k.lane.family x.0 c.0 v.sides p.0 e sides-there p.1,
+            )
 
     -- ---- leaving
 

@@ -11,7 +11,7 @@ use Rattle.tree_specs.specs.Events.Rotation.{holder_of, watch_of, ring_in}
 use Rattle.linked_lanes.specs.declared.Sides.{Sides}
 use Rattle.linked_lanes.specs.declared.lane.Extent.{Extent}
 use Rattle.linked_lanes.specs.Lane.{is_at, without}
-use Rattle.linked_lanes.specs.Family.{Family}
+use Rattle.linked_lanes.specs.Family.{Family, IsWhole, left_by}
 use Rattle.lane_ends.specs.Lanes.{Lanes}
 use Rattle.fd_events.specs.declared.node.Node.{Node}
 use Rattle.fd_events.specs.declared.lane.Lane.{Lane}
@@ -115,9 +115,9 @@ lanes_joined F x o d = cond (is_at o d) (x ∷ F d) (F d)
 abbrev pub lanes_left : (ℕ → List ℕ) → ℕ → ℕ → List ℕ
 lanes_left F x d = without (F d) x
 
--- the ends of this lane are there, and some stand in it
-abbrev pub HasSome : Lanes → ℕ → Type 0
-HasSome m c = (e : Extent) × (map.get m c ≡ Some e) × (0 < e.count)
+-- the ends of this lane are there, some stand in it, and whole ends are left once one with these neighbours has left
+abbrev pub CanLeave : Lanes → Sides → ℕ → Type 0
+CanLeave m sides c = (e : Extent) × (map.get m c ≡ Some e) × (0 < e.count) × IsWhole (left_by sides e)
 
 -- the ends of this lane are there, and fewer than n stand in it
 abbrev pub HasFewer : Lanes → ℕ → ℕ → Type 0

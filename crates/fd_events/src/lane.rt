@@ -3,7 +3,7 @@
 ghost use Rattle.std.specs.Prelude.{◌≡◌, ◌↔◌, ℕ, List, Option, Some, None, IsTrue, true};
 ghost use Rattle.std.specs.Option.{option_map};
 ghost use Rattle.std.specs.FinMap as map;
-ghost use Rattle.fd_events.specs.Linked.{number_of, sides_at, watch_at, is_there, placed, lanes_joined, lanes_left, HasFewer, HasSome, HasStampsLeft, IsLane, OnContext};
+ghost use Rattle.fd_events.specs.Linked.{number_of, sides_at, watch_at, is_there, placed, lanes_joined, lanes_left, CanLeave, HasFewer, HasStampsLeft, IsLane, OnContext};
 
 use crate::node::{Node, set_link, set_place};
 use lane_ends::LaneEnds;
@@ -35,7 +35,7 @@ impl Lane {
 
     /// Takes one with these neighbours out of its place in a context.
     fn leave_lane(&mut self, c: Obj, sides: Sides)
-        requires { HasSome self.old.ends.lanes c.0 }
+        requires { CanLeave self.old.ends.lanes sides c.0 }
         ensures lane { (K : ℕ → Option ℕ) (F : ℕ → List ℕ) (x : ℕ) → IsLane self.old K F → K x ≡ Some c.0 → sides_at self.old.nodes.pairs x ≡ Some sides → IsLane self.new (placed K x None) (lanes_left F x) }
         ensures watches { (q : ℕ) → watch_at self.new.nodes.pairs q ≡ watch_at self.old.nodes.pairs q }
         ensures len { map.len self.new.nodes.pairs ≡ map.len self.old.nodes.pairs }
@@ -51,7 +51,7 @@ impl Lane {
 
     /// Takes one that is noted so out of its place, where it has one. What is noted under its number stays.
     pub(crate) fn leave(&mut self, node: Node)
-        requires { OnContext (HasSome self.old.ends.lanes) node.context }
+        requires { OnContext (CanLeave self.old.ends.lanes node.sides) node.context }
         ensures lane { (K : ℕ → Option ℕ) (F : ℕ → List ℕ) (x : ℕ) → IsLane self.old K F → K x ≡ option_map number_of node.context → sides_at self.old.nodes.pairs x ≡ Some node.sides → IsLane self.new (placed K x None) (lanes_left F x) }
         ensures watches { (q : ℕ) → watch_at self.new.nodes.pairs q ≡ watch_at self.old.nodes.pairs q }
         ensures len { map.len self.new.nodes.pairs ≡ map.len self.old.nodes.pairs }

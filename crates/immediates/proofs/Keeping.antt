@@ -13,9 +13,9 @@ use Rattle.linked_lanes.specs.declared.lane.Extent.{Extent}
 use Rattle.linked_lanes.specs.declared.Link.TheVariants.{Newer, Older}
 use Rattle.linked_lanes.specs.Lane.{is_at}
 use Rattle.linked_lanes.specs.Chain.{noted}
-use Rattle.linked_lanes.specs.Family.{Family, no_ends, joined_by, left_by}
+use Rattle.linked_lanes.specs.Family.{Family, IsWhole, no_ends, joined_by, left_by}
 use Rattle.linked_lanes.proofs.Lanes.{by_test}
-use Rattle.linked_lanes.proofs.Families.{same-family, found-count, left-family, joined-family, grown-family, shrunk-family}
+use Rattle.linked_lanes.proofs.Families.{same-family, found-count, left-whole, left-family, joined-family, grown-family, shrunk-family}
 use Rattle.lane_ends.specs.Lanes.{Lanes, without_lane}
 use Rattle.tree_specs.specs.declared.coming.Coming.{Coming}
 use Rattle.immediates.specs.declared.node.Node.{Node}
@@ -131,6 +131,9 @@ module _ (m : Nodes) (ends : Lanes) (coming : List Coming) (contexts : List Obj)
   module _ (x : Obj) (v : Node) (found : map.get m x.0 ≡ Some v) (e : Extent) (at : map.get ends v.context ≡ Some e) where
     pub some-there : 0 < e.count
     some-there = found-count (context_at m) (sides_at m) (map.get ends) (lane_in coming) k.family x.0 v.context v.sides e (ap (option_map context_of) found) (ap (option_map sides_of) found) at
+
+    pub whole-left : IsWhole (left_by v.sides e)
+    whole-left = left-whole (context_at m) (sides_at m) (map.get ends) (lane_in coming) k.family x.0 v.context v.sides e (ap (option_map context_of) found) (ap (option_map sides_of) found) at
 
     module _ (m1 m2 m3 : Nodes) (ends' : Lanes) (taken : m1 ≡ map.remove m x.0)
         (olders : (q : ℕ) → sides_at m2 q ≡ cond (is_at v.sides.newer q) (option_map (noted (Older v.sides.older)) (sides_at m1 q)) (sides_at m1 q))

@@ -5,13 +5,15 @@
 
 ghost use Rattle.std.specs.Prelude.{◌≡◌, ◌+◌, ◌<◌, ◌≤◌, None, IsSome, OnOk};
 ghost use Rattle.std.specs.FinMap as map;
-ghost use Rattle.linked_lanes.specs.Family.{no_ends};
+ghost use Rattle.linked_lanes.specs.Family.{no_ends, IsWhole};
 
 use linked_lanes::Extent;
+use packed::Packed;
 use pool_arena::Arena;
 use std::alloc::{AllocError, Global};
 use std::marker::Model;
 
+mod packed;
 #[cfg(test)]
 mod tests;
 
@@ -22,21 +24,22 @@ pub struct LaneEnds {
     /// Those of lane 0.
     first: Extent,
     /// Those of the other lanes, under their numbers.
-    others: Arena<Extent>,
+    others: Arena<Packed>,
 }
 
 impl Model for LaneEnds {
     ghost use Rattle.lane_ends.specs.Lanes.{Ends, ends_code, lanes_of};
+    ghost use Rattle.lane_ends.specs.Packing.{lanes_told};
 
     ghost Value = { Ends };
 
     ghost coded = { ends_code };
 
-    ghost view = { λ s. record { lanes = lanes_of s.first s.others.pairs; spare = s.others.spare } };
+    ghost view = { λ s. record { lanes = lanes_of s.first (lanes_told s.others.pairs); spare = s.others.spare } };
 }
 
 /// Sets the ends of a lane that stands in the arena.
-fn set_at(others: &mut Arena<Extent>, lane: u64, ends: Extent)
+fn set_at(others: &mut Arena<Packed>, lane: u64, ends: Packed)
     requires { IsSome (map.get others.old.pairs lane) }
     ensures pairs { others.new.pairs ≡ map.insert others.old.pairs lane ends }
     ensures spare { others.new.spare ≡ others.old.spare }
@@ -66,19 +69,20 @@ impl LaneEnds {
         if lane == 0 {
             return Some(self.first);
         }
-        self.others.get(lane).copied()
+        self.others.get(lane).copied().map(Packed::extent)
     }
 
     /// Sets the ends of a lane.
     pub fn set(&mut self, lane: u64, ends: Extent)
-        requires { IsSome (map.get self.old.lanes lane) }
+        requires known { IsSome (map.get self.old.lanes lane) }
+        requires whole { IsWhole ends }
         ensures lanes { self.new.lanes ≡ map.insert self.old.lanes lane ends }
         ensures spare { self.new.spare ≡ self.old.spare }
     {
         if lane == 0 {
             self.first = ends;
         } else {
-            set_at(&mut self.others, lane, ends);
+            set_at(&mut self.others, lane, Packed::of(ends));
         }
     }
 
@@ -98,7 +102,7 @@ impl LaneEnds {
         ensures lanes { self.new.lanes ≡ map.insert self.old.lanes lane no_ends }
         ensures spare { self.old.spare ≤ self.new.spare + 1 }
     {
-        self.others.add(lane, Extent::new());
+        self.others.add(lane, Packed::of(Extent::new()));
     }
 
     /// Drops a lane. Lane 0 stays as it is, and so do the lanes where there is none under the number.

@@ -6,14 +6,21 @@ use Rattle.linked_lanes.specs.declared.Sides.{Sides}
 use Rattle.linked_lanes.specs.declared.lane.Extent.{Extent}
 use Rattle.linked_lanes.specs.Lane.{is_at, has, without, Distinct}
 use Rattle.linked_lanes.specs.Chain.{Chain, sides_in, last_left}
-use Rattle.linked_lanes.specs.Family.{Family, IsTold, no_ends, joined_by, left_by}
+use Rattle.linked_lanes.specs.Family.{Family, IsTold, IsWhole, no_ends, joined_by, left_by}
 use Rattle.linked_lanes.proofs.Lanes.{by_test, not_both, false_by, eqb-self, is_at-same, without-absent, has-without-other, has-without-same, Distinct-without, length-without}
 use Rattle.linked_lanes.proofs.Chains.{newer_as, older_as, kept_chain, stays, left-chain, left-other, added-chain, added-other}
-use Rattle.linked_lanes.proofs.Ends.{last-joined, last-without}
+use Rattle.linked_lanes.proofs.Ends.{last-joined, last-without, some-first, some-last}
 
 none-has : (xs : List ℕ) → ((q : ℕ) → has xs q ≡ false) → xs ≡ []
 none-has [] h = refl
 none-has (x ∷ xs) h = let e : has (x ∷ xs) x ≡ true = rw (eqb-self x) refl in not_both e (h x)
+
+-- the ends that tell a lane are whole
+pub told-whole : (C : ℕ → Option Sides) (e : Extent) (xs : List ℕ) → IsTold C e xs → IsWhole e
+told-whole C e xs t = record {
+  newest = rw (t.chain.at_head, t.count) (some-first xs);
+  oldest = rw (t.at_last, t.count) (some-last xs);
+}
 
 -- the same lanes, in other words
 pub same-family : (K : ℕ → Option ℕ) (C : ℕ → Option Sides) (E : ℕ → Option Extent) (F F' : ℕ → List ℕ) → ((c : ℕ) → F' c ≡ F c) → Family K C E F → Family K C E F'
@@ -118,6 +125,16 @@ module _ (K : ℕ → Option ℕ) (C : ℕ → Option Sides) (E : ℕ → Option
         told = told';
         known = known';
       }
+
+    -- what it leaves is whole, whatever becomes of the neighbours
+    pub left-whole : IsWhole (left_by s e)
+    left-whole =
+        let K' : ℕ → Option ℕ = λ q. cond (nat_eq x q) None (K q) in
+        let N1 : ℕ → Option Sides = λ q. cond (nat_eq x q) None (C q) in
+        let N2 : ℕ → Option Sides = λ q. cond (is_at s.newer q) (option_map (older_as s.older) (N1 q)) (N1 q) in
+        let N3 : ℕ → Option Sides = λ q. cond (is_at s.older q) (option_map (newer_as s.newer) (N2 q)) (N2 q) in
+        let E' : ℕ → Option Extent = λ d. cond (nat_eq c d) (Some (left_by s e)) (E d) in
+        told-whole N3 (left_by s e) (without (F c) x) (own K' N1 N2 N3 E' (λ q. refl) (λ q. refl) (λ q. refl) (λ q. refl) (λ d. refl))
 
   -- ---- joining
 

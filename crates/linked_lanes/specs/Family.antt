@@ -1,5 +1,5 @@
 -- Several lanes, each under a number of its own, with the ends of each.
-use Rattle.std.specs.Prelude.{◌≡◌, ℕ, ◌+◌, ◌-◌, List, length, Option, Some, None, IsSome}
+use Rattle.std.specs.Prelude.{◌≡◌, ◌↔◌, ℕ, ◌+◌, ◌-◌, ◌<◌, List, length, Option, Some, None, IsSome}
 use Rattle.std.specs.Option.{option_or}
 use Rattle.linked_lanes.specs.Lane.{has, last, is_at, Distinct}
 use Rattle.linked_lanes.specs.Chain.{Chain, head_left, last_left}
@@ -8,6 +8,11 @@ use Rattle.linked_lanes.specs.declared.lane.Extent.{Extent}
 
 abbrev pub no_ends : Extent
 no_ends = record { newest = None; oldest = None; count = 0 }
+
+-- there is a newest and an oldest exactly where some stand in the lane
+pub record IsWhole (e : Extent) : Type 0 where
+  pub newest : IsSome e.newest ↔ (0 < e.count)
+  pub oldest : IsSome e.oldest ↔ (0 < e.count)
 
 -- the ends once one has joined
 abbrev pub joined_by : ℕ → Extent → Extent

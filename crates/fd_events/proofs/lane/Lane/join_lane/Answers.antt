@@ -16,8 +16,8 @@ prove-unreachable-requires c =
     let all = c.len.ensures in
     let under = c.if-prove.true in omega (arith, few, counts, all, under)
 
-pub set-requires : goal.set-requires
-set-requires c = ap is_some c.requires.1
+pub set-requires-clause-known : goal.set-requires-clause-known
+set-requires-clause-known c = ap is_some c.requires.1
 
 pub returns-clause-lane : goal.returns-clause-lane
 returns-clause-lane c = λ K F k out there.

@@ -1,5 +1,6 @@
-use Rattle.std.proofs.Common.{◌≡◌, Some, is_some, sym, ap, ◌∙◌}
+use Rattle.std.proofs.Common.{◌≡◌, Some, is_some, sym, ap, subst, ◌∙◌}
 use Rattle.std.specs.FinMap as map
+use Rattle.linked_lanes.specs.Family.{IsWhole, left_by}
 use Rattle.fd_events.specs.Linked.{sides_at}
 use Rattle.fd_events.proofs.Moving.{leaves, open-set}
 use Rattle.fd_events.proofs.lane.Lane.leave_lane.Goals as goal
@@ -13,8 +14,14 @@ left-requires c =
     let is : c.unwrap-ends.result ≡ c.requires.0 = cc in
     let some = c.requires.2 in rw is some
 
-pub set-requires : goal.set-requires
-set-requires c = ap is_some c.requires.1
+pub set-requires-clause-known : goal.set-requires-clause-known
+set-requires-clause-known c = ap is_some c.requires.1
+
+pub set-requires-clause-whole : goal.set-requires-clause-whole
+set-requires-clause-whole c =
+    let same : Some c.unwrap-ends.result ≡ Some c.requires.0 = sym c.unwrap-ends.ensures ∙ c.get.ensures ∙ c.requires.1 in
+    let is : c.unwrap-ends.result ≡ c.requires.0 = cc in
+    subst IsWhole (sym (c.left.ensures ∙ ap (left_by c.args.sides) is)) c.requires.3
 
 pub returns-clause-lane : goal.returns-clause-lane
 returns-clause-lane c = λ K F x k in_lane found.

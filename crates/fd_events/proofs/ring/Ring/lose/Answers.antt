@@ -6,11 +6,11 @@ use Rattle.fd_events.specs.declared.change.Change.TheVariants.{Loses}
 use Rattle.fd_events.specs.Rotation.{Rotation}
 use Rattle.fd_events.specs.Linked.{watching}
 use Rattle.fd_events.proofs.Holding.{unwatched-none}
-use Rattle.fd_events.proofs.Keeping.{has-some, keeps-lost, keeps-noted, left-by}
+use Rattle.fd_events.proofs.Keeping.{can-leave, keeps-lost, keeps-noted, left-by}
 use Rattle.fd_events.proofs.ring.Ring.lose.Goals as goal
 
 pub leave-requires : goal.leave-requires
-leave-requires c = has-some c.self.inside.lane c.self.inside.holders.pairs _ _ c.self.invariant c.args.x c.in-Some.node (sym c.node.ensures ∙ c.in-Some.is)
+leave-requires c = can-leave c.self.inside.lane c.self.inside.holders.pairs _ _ c.self.invariant c.args.x c.in-Some.node (sym c.node.ensures ∙ c.in-Some.is)
 
 pub invariant_of-self : goal.invariant_of-self
 invariant_of-self c =

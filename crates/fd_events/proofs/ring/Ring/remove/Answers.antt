@@ -9,7 +9,7 @@ use Rattle.fd_events.specs.Rotation.{Rotation}
 use Rattle.fd_events.specs.Changes.{watches_of}
 use Rattle.fd_events.specs.Linked.{watching, context_in, lane_in}
 use Rattle.fd_events.proofs.Holding.{unwatched-none, is_some-map}
-use Rattle.fd_events.proofs.Keeping.{has-some, context-there, sides-there, keeps-gone, keeps-noted}
+use Rattle.fd_events.proofs.Keeping.{can-leave, context-there, sides-there, keeps-gone, keeps-noted}
 use Rattle.fd_events.proofs.ring.Ring.remove.Goals as goal
 
 -- ---- one that watches nothing
@@ -26,7 +26,7 @@ returns-in_err-node-clause-watches c =
 -- ---- one that watches
 
 pub leave-requires : goal.leave-requires
-leave-requires c = has-some c.self.inside.lane c.self.inside.holders.pairs _ _ c.self.invariant c.args.x c.in_ok-node.node (sym c.in_ok-node.ensures)
+leave-requires c = can-leave c.self.inside.lane c.self.inside.holders.pairs _ _ c.self.invariant c.args.x c.in_ok-node.node (sym c.in_ok-node.ensures)
 
 pub invariant_of-self : goal.invariant_of-self
 invariant_of-self c =

@@ -1,13 +1,14 @@
 use Rattle.std.proofs.Common.{◌≡◌, is_some, false, sym, ap, subst, ◌∙◌}
 use Rattle.std.specs.FinMap as map
 use Rattle.pool_arena.proofs.Keeps.{removed_none}
+use Rattle.linked_lanes.specs.Family.{IsWhole}
 use Rattle.immediates.specs.declared.change.Change.TheVariants.{Leaves}
 use Rattle.immediates.specs.Changes.{coming_of, contexts_of}
 use Rattle.tree_specs.specs.Events.Pending.{is_scheduled}
 use Rattle.immediates.specs.Waiting.{Waiting}
 use Rattle.immediates.specs.Linked.{IsKept}
 use Rattle.immediates.proofs.Once.{nobody-gone}
-use Rattle.immediates.proofs.Keeping.{there, keeps-left, keeps-noted}
+use Rattle.immediates.proofs.Keeping.{there, whole-left, keeps-left, keeps-noted}
 use Rattle.immediates.proofs.soon.Soon.remove.Goals as goal
 
 -- ---- one that doesn't wait
@@ -31,6 +32,12 @@ pub returns-in_default-clause-coming : goal.returns-in_default-clause-coming
 returns-in_default-clause-coming c = ap (λ (v : Waiting). v.coming) c.self.view_is ∙ sym (nobody-gone c.args.self.now.coming c.args.x (absent c))
 
 -- ---- one that waits
+
+pub set-requires-clause-whole : goal.set-requires-clause-whole
+set-requires-clause-whole c =
+    subst IsWhole (sym c.left.ensures)
+    (whole-left c.self.inside.nodes.pairs c.self.inside.ends.lanes _ _ c.self.invariant c.args.x c.in-Some.node (sym c.take.ensures.value ∙ c.in-Some.is)
+    c.unwrap-ends.result (sym c.get.ensures ∙ c.unwrap-ends.ensures))
 
 pub invariant_of-self-2 : goal.invariant_of-self-2
 invariant_of-self-2 c =
