@@ -1,3 +1,8 @@
+use Rattle.std.proofs.Common.{OnOk, subst}
+use Rattle.tree_specs.specs.declared.call.Call.TheVariants as call
+use Rattle.tree_specs.specs.declared.object.Obj.{Obj}
+use Rattle.tree_specs.specs.declared.question.Input.TheVariants as input
+use Rattle.line_service.specs.Steps.{Gives}
 use Rattle.line_service.proofs.Doing.{turn-begun}
 use Rattle.line_service.proofs.station.Station.begin_turn.Goals as goal
 
