@@ -30,6 +30,8 @@ orderly =
     ("state 1 2\nfired callback 1 16\nstate 1 6\nfreed 1 0\nend quiet\n", Orderly 6) ∷
     -- reports of a row and of none, and replies of other forms
     ("row 0 0 root 0 0 0 null_context\nreply rows 1\nreply rows 0\nend quiet\n", Orderly 5) ∷
+    -- one of a context, which is freed after its turn
+    ("row 0 1 context 0 0 0 tevent\nreply rows 1\nfired timer 2 16\nask timer 2 16 5 0 0 0\nreply no 3 1\nask timer 2 16 5 0 0 1\nfreed 2 0\nfreed 1 0\nreply 1\nend quiet\n", Orderly 11) ∷
     ("reply 7\nreply 7 8\nreply again\nreply fault\nreply end\nreply no 9 4 1 2 3\nreply got 0aff\nend quiet\n", Orderly 9) ∷
     -- other questions, and other ends
     ("ask clock\nask wait 5\nask accept 0\nask read 5 4096\nask write 5 00\nend timer 4 16 1 2 0 0\n", Orderly 7) ∷

@@ -103,7 +103,7 @@ pub any-room : (o : Option FreeFrame) (tree : Links) → length tree.rows + 2 �
 any-room None tree room = waiting tree.frees
   where
     waiting : (fs : List FreeFrame) → wanted fs tree.rows ≤ length fs + tree.room
-    waiting [] = omega arith
+    waiting [] = let m = row_places-most tree.rows in omega (arith, m, room)
     waiting (g ∷ gs) = let m = row_places-most tree.rows in let w = work_places-most g in omega (arith, m, w, room)
 any-room (Some f) tree room = let m = row_places-most tree.rows in let w = work_places-most f in omega (arith, m, w, room)
 

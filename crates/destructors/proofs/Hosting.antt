@@ -26,7 +26,7 @@ use Rattle.tree_specs.specs.Invariants.Sound.Footing.{OnCall, OnDropping}
 use Rattle.tree_specs.specs.Invariants.Measure.{waiting_cost}
 use Rattle.tree_specs.specs.Invariants.Consistent.{IsFree, IsStacked, IsPaidFor, size, innermost_size, sizes}
 use Rattle.tree_specs.proofs.Invariants.Changes.{goes_on, stands}
-use Rattle.tree_specs.proofs.Invariants.Waiters.{Waiter, ForFree, ForRun, ForChild, ForClear, ForReceived, ForDrained, ForRelease, ForEntry, waiter}
+use Rattle.tree_specs.proofs.Invariants.Waiters.{Waiter, ForFree, ForRun, ForChild, ForClear, ForParting, ForReceived, ForDrained, ForRelease, ForEntry, waiter}
 use Rattle.tree_specs.proofs.Turns.Seats.{reseat-free}
 use Rattle.destructors.specs.Frees.{OpenFrees, awaits_run, answered, was_prepared, moved, moves}
 use Rattle.destructors.specs.Engine.{IsPreparing}
@@ -120,6 +120,7 @@ over-awaits f fs p w none on =
 pub begun-on : (f : FreeFrame) (g : Frame) (gs : List Frame) → Waiter g → (IsFree g → ⊥) → IsStacked (frame.Free f) (g ∷ gs) → (footing (g ∷ gs) ≡ OnDropping → ⊥) → footing (g ∷ gs) ≡ OnCall
 begun-on f _ gs (ForFree q x) n s apart = refl
 begun-on f _ gs (ForClear x) n s apart = refl
+begun-on f _ gs (ForParting c v) n s apart = refl
 begun-on f _ gs (ForRelease c) n s apart = refl
 begun-on f _ gs (ForEntry q e) n s apart = absurd (apart refl)
 begun-on f _ gs (ForRun x h) n s apart = absurd (n tt)

@@ -18,7 +18,8 @@ use Rattle.tree_specs.specs.declared.object.Owner.{Owner}
 use Rattle.tree_specs.specs.declared.object.Owner.TheVariants.{Of}
 use Rattle.tree_specs.specs.declared.row.Row.{Row}
 use Rattle.tree_specs.specs.declared.row.Mark.{Mark}
-use Rattle.tree_specs.specs.declared.row.Mark.TheVariants.{Quiet, Asked, Busy, Doomed}
+use Rattle.tree_specs.specs.declared.kind.Kind.{Kind}
+use Rattle.tree_specs.specs.declared.row.Mark.TheVariants.{Quiet, Asked, Busy, Doomed, Dying}
 use Rattle.tree_specs.specs.Tree.Pool.{Pool, row_of, is_below, owner_of, first_kid, target_at, newest_ref_of, is_inside, without, marked_row, hooked_row, left_row, set_mark}
 use Rattle.tree_specs.specs.Tree.Targets.{newest_ref}
 use Rattle.tree_specs.specs.Words.Objects.{same}
@@ -210,9 +211,10 @@ fewer-places [] x = omega arith
 fewer-places (r ∷ rs) x = let ih = fewer-places rs x in by_test (same r.serial x) (λ t. rw t (omega arith)) (λ t. rw t (omega (arith, ih)))
 
 -- a row that nothing goes on with
-quiet-places : (m : Mark) → [] ≡ phase_of m → mark_places m ≡ 1
-quiet-places Quiet e = refl
-quiet-places _ e = cc
+quiet-places : (k : Kind) (m : Mark) → [] ≡ phase_of k m → mark_places m ≡ 1
+quiet-places k (Dying former) e = cc
+quiet-places k Asked e = cc
+quiet-places k _ e = refl
 
 slim : (f : FreeFrame) (fs : List Frame) (p : Pool) → Sound (frame.Free f) fs p → Slim (work_places f + total row_places p.rows) (free_step f p)
 slim (Unlinking o x) fs p s = each (newest_ref_of p.rows o x)
@@ -250,7 +252,7 @@ slim (Leaving x h) fs p s =
     by_test (nat_eq h 0)
     (λ t.
     let all : [] ≡ phases (row_of p.rows x) = rw (t, none) at (s.open_frees x) in
-    let l = quiet-places s.rests.0.mark (rw s.rests.1 at all) in
+    let l = quiet-places s.rests.0.kind s.rests.0.mark (rw s.rests.1 at all) in
     rw t (omega (arith, w, l)))
     (λ t.
     let all : claim_if (same x x) InRun ++ [] ≡ phases (row_of p.rows x) = rw (t, none) at (s.open_frees x) in

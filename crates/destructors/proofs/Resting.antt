@@ -40,6 +40,7 @@ empty-rests first positive = record {
       refers = record { target = λ r t e. cc; quiet = λ r t e. cc };
       open_frees = λ x. refl;
       waiting = (tt, tt);
+      turned = tt;
       rests = (tt, tt);
     };
     seated = (tt, tt);

@@ -20,7 +20,7 @@ use Rattle.tree_specs.specs.Invariants.Sound.{Footing, Drains, IsCalled, IsTurne
 use Rattle.tree_specs.specs.Invariants.Sound.Footing.{OnCall, OnFree, OnDropping, OnTurning, OnRequesting}
 use Rattle.tree_specs.specs.Invariants.Consistent.{IsFree, IsStacked, IsPaidFor, Serves, size, sizes}
 use Rattle.tree_specs.proofs.Invariants.Changes.{stands}
-use Rattle.tree_specs.proofs.Invariants.Waiters.{Waiter, ForFree, ForRun, ForChild, ForTurn, ForHandler, ForClear, ForRequest, ForServed, ForReceived, ForDrained, ForRoutine, ForRelease, ForEntry, waiter}
+use Rattle.tree_specs.proofs.Invariants.Waiters.{Waiter, ForFree, ForRun, ForChild, ForTurn, ForHandler, ForClear, ForParting, ForRequest, ForServed, ForReceived, ForDrained, ForRoutine, ForRelease, ForEntry, waiter}
 use Rattle.tree_specs.proofs.Turns.Seats.{reseat, reseat-free, reseat-work}
 use Rattle.destructors.specs.Works.{frees_among, AreTurnsLast, as_received, AreAwaiting}
 
@@ -118,6 +118,7 @@ waits-shown g gs w = each g (waiter g gs w) w
     each _ (ForTurn q) w = tt
     each _ (ForHandler what x handler occasion) w = turned (footing gs) w
     each _ (ForClear x) w = turned (footing gs) w
+    each _ (ForParting c v) w = turned (footing gs) w
     each _ (ForRequest q) w = tt
     each _ (ForServed x) w = turned (footing gs) w
     each _ (ForReceived x) w = tt
@@ -169,6 +170,7 @@ begun-awaits f g gs fs p n none s seated light turns e =
     each : (g : Frame) → Waiter g → (IsFree g → ⊥) → IsStacked (frame.Free f) (g ∷ gs) → shown_footing (footing (g ∷ gs)) ≡ OnCall
     each _ (ForFree q x) n s = refl
     each _ (ForClear x) n s = refl
+    each _ (ForParting c v) n s = refl
     each _ (ForRelease c) n s = refl
     each _ (ForEntry q y) n s = refl
     each _ (ForRun x h) n s = absurd (n tt)

@@ -31,7 +31,7 @@ work_places (Looping x purpose) = 1
 work_places (AfterChild x c noted purpose a) = 1
 work_places f = 0
 
--- the works that may still come to stand, with those that stand below the innermost
+-- the works that may still come to stand, with those that stand below the innermost; with no free open, those of one that begins
 abbrev pub wanted : List FreeFrame → List Row → ℕ
-wanted [] rows = 0
+wanted [] rows = total row_places rows
 wanted (f ∷ fs) rows = length fs + work_places f + total row_places rows

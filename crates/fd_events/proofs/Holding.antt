@@ -11,16 +11,20 @@ use Rattle.tree_specs.specs.Words.Objects.{same}
 use Rattle.tree_specs.specs.Events.Rotation.{watch_of, is_watching, is_watched, unwatched, rewatched}
 use Rattle.tree_specs.proofs.Tree.Numbered.{same-true}
 use Rattle.linked_lanes.proofs.Lanes.{by_test, not_both, false_by, eqb-self, eqb-sym}
-use Rattle.fd_events.specs.Rotation.{AreOnceBy, AreEventsOnce, AreDescriptorsOnce}
+use Rattle.fd_events.specs.Rotation.{object_of, AreOnceBy, AreEventsOnce, AreDescriptorsOnce}
 use Rattle.fd_events.specs.Linked.{numbered, AreHolders}
 
 pub is_some-map : {X Y : Type 0} (f : X → Y) (o : Option X) → is_some (option_map f o) ≡ is_some o
 is_some-map f None = refl
 is_some-map f (Some v) = refl
 
-none : {X : Type 0} (o : Option X) → is_some o ≡ false → o ≡ None
+pub none : {X : Type 0} (o : Option X) → is_some o ≡ false → o ≡ None
 none None e = refl
 none (Some v) e = cc
+
+abbrev pub kept_if : (Watch → Bool) → Option Watch → Option Watch
+kept_if p None = None
+kept_if p (Some w) = if p w then Some w else None
 
 -- ---- what no two have the same of
 
@@ -47,31 +51,39 @@ module _ (key : Watch → ℕ) where
       (λ t. let e' : is_some (found vs n) ≡ false = rw t at e in
       by_test (p v) (λ u. rw u (rw t (absent-filtered p vs n e'))) (λ u. rw u (absent-filtered p vs n e')))
 
-  once-filtered : (p : Watch → Bool) (ws : List Watch) → AreOnceBy key ws → AreOnceBy key (filter p ws)
+  pub once-filtered : (p : Watch → Bool) (ws : List Watch) → AreOnceBy key ws → AreOnceBy key (filter p ws)
   once-filtered p [] a = tt
   once-filtered p (v ∷ vs) a = by_test (p v) (λ u. rw u (absent-filtered p vs (key v) a.0, once-filtered p vs a.1)) (λ u. rw u (once-filtered p vs a.1))
 
+  -- one among those that pass a test
+  pub found-kept : (p : Watch → Bool) (ws : List Watch) (n : ℕ) → AreOnceBy key ws → found (filter p ws) n ≡ kept_if p (found ws n)
+  found-kept p [] n a = refl
+  found-kept p (v ∷ vs) n a = by_test (nat_eq (key v) n)
+      (λ t. by_test (p v)
+      (λ u. rw (t, u, t) refl)
+      (λ u. rw (t, u) (none _ (absent-filtered p vs n (ap (λ k. is_some (found vs k)) (sym (eqb-true (key v) n t)) ∙ a.0)))))
+      (λ t. by_test (p v)
+      (λ u. rw (t, u, t) (found-kept p vs n a.1))
+      (λ u. rw (t, u) (found-kept p vs n a.1)))
+
   module _ (g : Watch → Watch) (kept : (w : Watch) → key (g w) ≡ key w) where
-    found-changed : (ws : List Watch) (n : ℕ) → found (map g ws) n ≡ option_map g (found ws n)
+    pub found-changed : (ws : List Watch) (n : ℕ) → found (map g ws) n ≡ option_map g (found ws n)
     found-changed [] n = refl
     found-changed (v ∷ vs) n =
         let is : nat_eq (key (g v)) n ≡ nat_eq (key v) n = ap (λ k. nat_eq k n) (kept v) in
         by_test (nat_eq (key v) n) (λ t. rw (is ∙ t, t) refl) (λ t. rw (is ∙ t, t) (found-changed vs n))
 
-    once-changed : (ws : List Watch) → AreOnceBy key ws → AreOnceBy key (map g ws)
+    pub once-changed : (ws : List Watch) → AreOnceBy key ws → AreOnceBy key (map g ws)
     once-changed [] a = tt
     once-changed (v ∷ vs) a =
         (ap is_some (found-changed vs (key (g v))) ∙ is_some-map g _ ∙ ap (λ k. is_some (found vs k)) (kept v) ∙ a.0, once-changed vs a.1)
 
 -- ---- one event among the others
 
-abbrev by_fd : List Watch → ℕ → Option Watch
+abbrev pub by_fd : List Watch → ℕ → Option Watch
 by_fd ws fd = find (λ w. nat_eq w.fd fd) ws
 
-abbrev object_of : Watch → Obj
-object_of w = w.object
-
-watch-object : (ws : List Watch) (x : Obj) (w : Watch) → watch_of ws x ≡ Some w → w.object ≡ x
+pub watch-object : (ws : List Watch) (x : Obj) (w : Watch) → watch_of ws x ≡ Some w → w.object ≡ x
 watch-object [] x w e = cc
 watch-object (v ∷ vs) x w e = by_test (same v.object x)
     (λ t. let e' : Some v ≡ Some w = rw t at e in let is : v ≡ w = cc in ap (λ (u : Watch). u.object) (sym is) ∙ same-true v.object x t)
@@ -108,7 +120,7 @@ unwatched-none (v ∷ vs) x e = by_test (same v.object x)
     (λ t. let e' : is_watching vs x ≡ false = rw t at e in rw t (ap (λ (l : List Watch). v ∷ l) (unwatched-none vs x e')))
 
 -- its descriptor is free once it is gone
-gone-fd : (ws : List Watch) (x : Obj) (w : Watch) → AreEventsOnce ws → AreDescriptorsOnce ws → watch_of ws x ≡ Some w → (g : ℕ) → by_fd (unwatched ws x) g ≡ cond (nat_eq w.fd g) None (by_fd ws g)
+pub gone-fd : (ws : List Watch) (x : Obj) (w : Watch) → AreEventsOnce ws → AreDescriptorsOnce ws → watch_of ws x ≡ Some w → (g : ℕ) → by_fd (unwatched ws x) g ≡ cond (nat_eq w.fd g) None (by_fd ws g)
 gone-fd [] x w a d e g = cc
 gone-fd (v ∷ vs) x w a d e g = by_test (same v.object x)
     (λ t. let e' : Some v ≡ Some w = rw t at e in let is : v ≡ w = cc in
@@ -177,3 +189,13 @@ holders-turned F ws x w a e k =
     (λ q. by_test (nat_eq w.fd q)
     (λ t. rw t (ap F (sym (eqb-true w.fd q t)) ∙ numbers (F w.fd) w.object (k.holder w.fd ∙ ap (option_map object_of) (watch-fd ws x w k.once e))))
     (λ t. rw t refl))
+
+-- the same where it watches in another context
+pub holders-again : (F : ℕ → Option ℕ) (ws : List Watch) (x : Obj) (v w : Watch) → AreEventsOnce ws → watch_of ws x ≡ Some v → w.object ≡ x → w.fd ≡ v.fd → AreHolders F ws
+    → is_some (by_fd (unwatched ws x) w.fd) ≡ false → AreHolders F (unwatched ws x ++ w ∷ [])
+holders-again F ws x v w a e own fd k free =
+    holders-added (λ q. cond (nat_eq v.fd q) None (F q)) F (unwatched ws x) (holders-gone F _ ws k x v a e (λ q. refl)) w free
+    (λ q. by_test (nat_eq v.fd q)
+    (λ t. let u : nat_eq w.fd q ≡ true = ap (λ (n : ℕ). nat_eq n q) fd ∙ t in
+    rw u (ap F (sym (eqb-true v.fd q t)) ∙ numbers (F v.fd) v.object (k.holder v.fd ∙ ap (option_map object_of) (watch-fd ws x v k.once e)) ∙ ap (λ (y : Obj). Some y.0) (watch-object ws x v e ∙ sym own)))
+    (λ t. let u : nat_eq w.fd q ≡ false = ap (λ (n : ℕ). nat_eq n q) fd ∙ t in rw (u, t) refl))

@@ -1,10 +1,16 @@
 pub mod Nodes
 pub mod Holding
 pub mod Listing
+pub mod Rings
 pub mod Stamps
+pub mod Lanes
+pub mod Moving
+pub mod Changes
 pub mod Keeping
 pub mod Walking
 pub mod Searching
 pub mod Soonest
 pub mod Growing
+pub mod Losing
+pub mod Places
 pub mod Stamped

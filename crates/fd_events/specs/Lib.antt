@@ -1,3 +1,4 @@
 pub mod Rotation
+pub mod Changes
 pub mod Linked
 pub mod Picking

@@ -1,22 +1,28 @@
--- The rotation, as the nodes and the two ends tell it by the numbers of the events.
-use Rattle.std.specs.Prelude.{◌≡◌, ℕ, ◌-◌, ◌^◌, ◌<◌, Bool, true, List, [], ◌∷◌, ◌++◌, length, Option, Some, None, is_some, if◌then◌else◌}
-use Rattle.std.specs.Option.{option_map}
+-- The rotation of each context, as the nodes and the ends tell it by the numbers of the events.
+use Rattle.std.specs.Prelude.{◌≡◌, ℕ, ◌-◌, ◌^◌, ◌<◌, Bool, true, cond, nat_eq, List, [], ◌∷◌, ◌++◌, length, Option, Some, None, is_some, if◌then◌else◌}
+use Rattle.std.specs.Option.{option_map, option_and_then}
 use Rattle.std.specs.Ordering.{nat_cmp}
 use Rattle.std.specs.FinMap as map
 use Rattle.tree_specs.specs.declared.object.Obj.{Obj}
 use Rattle.tree_specs.specs.declared.watch.Watch.{Watch}
 use Rattle.tree_specs.specs.Words.Objects.{same}
-use Rattle.tree_specs.specs.Events.Rotation.{holder_of}
+use Rattle.tree_specs.specs.Events.Contexts.{has_context}
+use Rattle.tree_specs.specs.Events.Rotation.{holder_of, watch_of, ring_in}
 use Rattle.linked_lanes.specs.declared.Sides.{Sides}
-use Rattle.linked_lanes.specs.Lane.{has, last, Distinct}
-use Rattle.linked_lanes.specs.Chain.{Chain, walk}
+use Rattle.linked_lanes.specs.declared.lane.Extent.{Extent}
+use Rattle.linked_lanes.specs.Lane.{is_at, without}
+use Rattle.linked_lanes.specs.Family.{Family, IsWhole, left_by}
+use Rattle.lane_ends.specs.Lanes.{Lanes}
 use Rattle.fd_events.specs.declared.node.Node.{Node}
 use Rattle.fd_events.specs.declared.lane.Lane.{Lane}
 use Rattle.fd_events.specs.declared.ring.Place.{Place}
-use Rattle.fd_events.specs.Rotation.{AreDescriptorsOnce}
+use Rattle.fd_events.specs.Rotation.{AreEventsOnce, AreDescriptorsOnce}
 
 abbrev pub numbered : ℕ → Obj
 numbered n = record { 0 = n }
+
+abbrev pub number_of : Obj → ℕ
+number_of x = x.0
 
 -- ---- what a node says
 
@@ -28,7 +34,7 @@ stamp_of v = v.stamp
 
 -- how the event of this number watches
 abbrev pub watching : ℕ → Node → Watch
-watching x v = record { object = numbered x; fd = v.fd; flags = v.flags; closes = v.closes }
+watching x v = record { object = numbered x; fd = v.fd; flags = v.flags; closes = v.closes; context = v.context }
 
 abbrev pub sides_at : map.FinMap nat_cmp Node → ℕ → Option Sides
 sides_at m q = option_map sides_of (map.get m q)
@@ -51,7 +57,26 @@ with_flags flags v = record v { flags = flags }
 abbrev pub with_closing : Node → Node
 with_closing v = record v { closes = true }
 
--- ---- the list
+abbrev pub with_loss : Node → Node
+with_loss v = record v { context = None }
+
+-- ---- what the list says
+
+-- the number of the context of an event; none where it is lost
+abbrev pub context_of : Watch → Option ℕ
+context_of w = option_map number_of w.context
+
+abbrev pub context_in : List Watch → ℕ → Option ℕ
+context_in ws q = option_and_then context_of (watch_of ws (numbered q))
+
+-- the newest first
+abbrev pub numbers_of : List Watch → List ℕ
+numbers_of [] = []
+numbers_of (w ∷ ws) = numbers_of ws ++ w.object.0 ∷ []
+
+-- the lane of a context
+abbrev pub lane_in : List Watch → ℕ → List ℕ
+lane_in ws c = numbers_of (ring_in ws (numbered c))
 
 abbrev pub listed_one : Option Watch → List Watch
 listed_one None = []
@@ -61,12 +86,6 @@ listed_one (Some w) = w ∷ []
 abbrev pub listed : (ℕ → Option Watch) → List ℕ → List Watch
 listed W [] = []
 listed W (x ∷ xs) = listed W xs ++ listed_one (W x)
-
-abbrev pub numbers_in : Lane → List ℕ
-numbers_in l = walk (sides_at l.nodes.pairs) (map.len l.nodes.pairs) l.newest
-
-abbrev pub watches_in : Lane → List Watch
-watches_in l = listed (watch_at l.nodes.pairs) (numbers_in l)
 
 -- ---- the stamps
 
@@ -79,28 +98,51 @@ abbrev pub FallFrom : (ℕ → Option ℕ) → ℕ → List ℕ → Type 0
 FallFrom S n [] = Unit {0}
 FallFrom S n (x ∷ xs) = (s : ℕ) × (S x ≡ Some s) × (s < n) × FallFrom S s xs
 
+-- ---- the lanes, one a context
+
+-- the neighbours, the ends and the stamps keep these lanes, where K gives the number of the lane in which each event stands
+pub record IsLane (l : Lane) (K : ℕ → Option ℕ) (lane : ℕ → List ℕ) : Type 0 where
+  pub family : Family K (sides_at l.nodes.pairs) (map.get l.ends.lanes) lane
+  pub stamps : HasStampsLeft l → (c : ℕ) → FallFrom (stamp_at l.nodes.pairs) l.next_stamp (lane c)
+
+-- one more stands in a lane, or in none
+abbrev pub placed : (ℕ → Option ℕ) → ℕ → Option ℕ → ℕ → Option ℕ
+placed K x o q = cond (nat_eq x q) o (K q)
+
+abbrev pub lanes_joined : (ℕ → List ℕ) → ℕ → Option ℕ → ℕ → List ℕ
+lanes_joined F x o d = cond (is_at o d) (x ∷ F d) (F d)
+
+abbrev pub lanes_left : (ℕ → List ℕ) → ℕ → ℕ → List ℕ
+lanes_left F x d = without (F d) x
+
+-- the ends of this lane are there, some stand in it, and whole ends are left once one with these neighbours has left
+abbrev pub CanLeave : Lanes → Sides → ℕ → Type 0
+CanLeave m sides c = (e : Extent) × (map.get m c ≡ Some e) × (0 < e.count) × IsWhole (left_by sides e)
+
+-- the ends of this lane are there, and fewer than n stand in it
+abbrev pub HasFewer : Lanes → ℕ → ℕ → Type 0
+HasFewer m n c = (e : Extent) × (map.get m c ≡ Some e) × (e.count < n)
+
+-- where there is a context, this holds of its number
+abbrev pub OnContext : (ℕ → Type 0) → Option Obj → Type 0
+OnContext P None = Unit {0}
+OnContext P (Some c) = P c.0
+
 -- ---- what holds of the fields
-
--- the neighbours, the two ends and the stamps keep this lane
-pub record IsLane (l : Lane) (xs : List ℕ) : Type 0 where
-  pub distinct : Distinct xs
-  pub chain : Chain (sides_at l.nodes.pairs) l.newest xs
-  pub at_last : l.oldest ≡ last xs
-  pub stamps : HasStampsLeft l → FallFrom (stamp_at l.nodes.pairs) l.next_stamp xs
-
-abbrev pub number_of : Obj → ℕ
-number_of x = x.0
 
 -- each descriptor is watched once, and its event is noted under it
 pub record AreHolders (F : ℕ → Option ℕ) (ws : List Watch) : Type 0 where
   pub once : AreDescriptorsOnce ws
   pub holder : (fd : ℕ) → option_map numbered (F fd) ≡ holder_of ws fd
 
-pub record IsLinked (l : Lane) (holders : map.FinMap nat_cmp ℕ) : Type 0 where
-  pub lane : IsLane l (numbers_in l)
-  pub held : (q : ℕ) → is_there l q ≡ has (numbers_in l) q
-  pub count : map.len l.nodes.pairs ≡ length (numbers_in l)
-  pub noted : AreHolders (map.get holders) (watches_in l)
+-- what holds of the fields, and of the list and the contexts that the history tells
+pub record IsKept (l : Lane) (holders : map.FinMap nat_cmp ℕ) (ws : List Watch) (cs : List Obj) : Type 0 where
+  pub once : AreEventsOnce ws
+  pub held : (q : ℕ) → watch_at l.nodes.pairs q ≡ watch_of ws (numbered q)
+  pub count : map.len l.nodes.pairs ≡ length ws
+  pub noted : AreHolders (map.get holders) ws
+  pub lane : IsLane l (context_in ws) (lane_in ws)
+  pub open_ones : (c : ℕ) → is_some (map.get l.ends.lanes c) ≡ has_context cs (numbered c)
 
 -- ---- a walk over the rotation
 

@@ -3,7 +3,9 @@ use Rattle.std.specs.Prelude.{ℕ, nat_eq, nat_lt, bit_and, length, ◌≡◌, �
 use Rattle.std.specs.Option.{option_map, option_and_then}
 use Rattle.std.specs.Ordering.{nat_cmp}
 use Rattle.std.specs.FinMap as map
+use Rattle.tree_specs.specs.declared.object.Obj.{Obj}
 use Rattle.tree_specs.specs.declared.watch.Watch.{Watch}
+use Rattle.tree_specs.specs.Words.Objects.{is_same}
 use Rattle.tree_specs.specs.declared.wants.Want.{Want}
 use Rattle.tree_specs.specs.Events.Rotation.{first_ready}
 use Rattle.fd_events.specs.declared.node.Node.{Node}
@@ -27,9 +29,13 @@ stamped stamp e = record { stamp = stamp; event = e }
 abbrev pub coming_by : ℕ → ℕ → Node → Option Coming
 coming_by flags x v = option_map (stamped v.stamp) (ready_by (watching x v) flags)
 
--- the event that watches this descriptor
-abbrev pub coming_for : map.FinMap nat_cmp Node → map.FinMap nat_cmp ℕ → Want → Option Coming
-coming_for nodes holders v = option_and_then (λ x. option_and_then (coming_by v.flags x) (map.get nodes x)) (map.get holders v.fd)
+-- the same, if it is an event of this context
+abbrev pub coming_in : Obj → ℕ → ℕ → Node → Option Coming
+coming_in c flags x v = if is_same v.context c then coming_by flags x v else None
+
+-- the event of this context that watches this descriptor
+abbrev pub coming_for : map.FinMap nat_cmp Node → map.FinMap nat_cmp ℕ → Obj → Want → Option Coming
+coming_for nodes holders c v = option_and_then (λ x. option_and_then (coming_in c v.flags x) (map.get nodes x)) (map.get holders v.fd)
 
 -- the one that has the lesser stamp
 abbrev pub sooner : Option Coming → Option Coming → Option Coming

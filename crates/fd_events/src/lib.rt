@@ -1,6 +1,7 @@
 //! The events on descriptors (`tevent_add_fd`), in the rotation in which a loop looks at them.
 #![tactic(auto)]
 
+mod change;
 mod coming;
 mod lane;
 mod node;

@@ -5,7 +5,8 @@ ghost use Rattle.std.specs.FinMap as map;
 ghost use Rattle.linked_lanes.specs.Lane.{is_at};
 ghost use Rattle.linked_lanes.specs.Chain.{noted};
 ghost use Rattle.linked_lanes.specs.declared.Sides.{Sides as SidesData};
-ghost use Rattle.fd_events.specs.Linked.{sides_at, stamp_at, watch_at, watching, with_flags, with_closing};
+ghost use Rattle.tree_specs.specs.Words.Objects.{is_same};
+ghost use Rattle.fd_events.specs.Linked.{sides_at, stamp_at, watch_at, watching, with_flags, with_closing, with_loss};
 
 use linked_lanes::{Link, Sides};
 use pool_arena::Arena;
@@ -17,7 +18,9 @@ pub(crate) struct Node {
     pub fd: u32,
     pub flags: u32,
     pub closes: bool,
-    /// Its neighbours.
+    /// The context in which it is watched; none where this is no more.
+    pub context: Option<Obj>,
+    /// Its neighbours in the rotation of its context.
     pub sides: Sides,
     /// A greater number than that of each event that stands before it.
     pub stamp: u64,
@@ -33,6 +36,17 @@ impl Node {
             fd: self.fd,
             flags: self.flags,
             closes: self.closes,
+            context: self.context,
+        }
+    }
+
+    /// Whether the event is one of this context.
+    pub(crate) fn is_in(self, c: Obj) -> bool
+        ensures { result ≡ is_same self.context c }
+    {
+        match self.context {
+            None => false,
+            Some(d) => d.0 == c.0,
         }
     }
 }
@@ -85,5 +99,16 @@ pub(crate) fn set_closing(nodes: &mut Arena<Node>, x: u64)
 {
     if let Some(node) = nodes.get_mut(x) {
         node.closes = true;
+    }
+}
+
+/// An event has no context any more. Nothing changes where it doesn't watch.
+pub(crate) fn set_lost(nodes: &mut Arena<Node>, x: u64)
+    ensures nodes { (q : ℕ) → map.get nodes.new.pairs q ≡ cond (nat_eq x q) (option_map with_loss (map.get nodes.old.pairs q)) (map.get nodes.old.pairs q) }
+    ensures len { map.len nodes.new.pairs ≡ map.len nodes.old.pairs }
+    ensures spare { nodes.new.spare ≡ nodes.old.spare }
+{
+    if let Some(node) = nodes.get_mut(x) {
+        node.context = None;
     }
 }

@@ -1,9 +1,13 @@
-ghost use Rattle.std.specs.Prelude.{◌+◌, ◌≤◌, ◌<◌, IfOk};
+ghost use Rattle.std.specs.Prelude.{◌≡◌, ◌+◌, ◌≤◌, ◌<◌, IfOk, true};
+ghost use Rattle.tree_specs.specs.Events.Contexts.{has_context};
 
 use crate::{ReadyEvent, Ring};
 use std::alloc::Global;
 use std::test::Fail;
 use tree_specs::{Obj, Want, Wants, Watch};
+
+/// The context that always is there.
+const FIRST: Obj = Obj(0);
 
 // No events, with room for so many.
 fn with_room(alloc: Global, room: usize) -> Result<Ring, Fail>
@@ -21,7 +25,7 @@ fn add(ring: &mut Ring, x: u64, fd: u32, flags: u32) -> bool
 {
     let free = ring.watch(Obj(x)).is_none() && ring.holder(fd).is_none();
     if free {
-        ring.add(Obj(x), fd, flags);
+        ring.add(Obj(x), fd, flags, FIRST);
     }
     free
 }
@@ -80,7 +84,7 @@ fn two(alloc: Global, first: Want, second: Want) -> Result<Vec<Want>, Fail> {
 
 // The first event that comes where these are ready, 10 times its number, and what for; 0 where none comes.
 fn first_ready(ring: &Ring, ready: &Wants) -> u64 {
-    match ring.first_ready(ready) {
+    match ring.first_ready(FIRST, ready) {
         None => 0,
         Some(ReadyEvent { object, flags }) => object
             .0
@@ -109,17 +113,17 @@ fn three(ring: &mut Ring) -> bool
 
 // What is told of the three events.
 fn is_told(ring: &Ring) -> bool {
-    let first = is_watch(ring.first(), 7, 40, 1, false);
+    let first = is_watch(ring.first(FIRST), 7, 40, 1, false);
     let second = is_watch(ring.watch(Obj(3)), 3, 9, 0, false);
     let flags = (flags(ring, 5) == 3) & (flags(ring, 6) == 4);
     let holders = (number(ring.holder(2)) == 5) & (number(ring.holder(3)) == 0);
-    first & second & flags & holders & (ring.len() == 3)
+    first & second & flags & holders & (ring.len(FIRST) == 3)
 }
 
 #[test]
 fn each_event_watches_as_it_was_told(rt: HostRuntime) -> Result<(), Fail> {
     let mut ring = with_room(rt.alloc(), 3)?;
-    assert!(rt; ring.is_empty());
+    assert!(rt; ring.is_empty(FIRST));
     assert!(rt; three(&mut ring));
     assert!(rt; is_told(&ring));
     Ok(())
@@ -131,7 +135,7 @@ fn is_changed(ring: &mut Ring) -> bool {
     let closing = set_closing(ring, 7);
     let absent = set_flags(ring, 4, 1);
     ring.turn_back(Obj(7));
-    let first = is_watch(ring.first(), 3, 9, 2, false);
+    let first = is_watch(ring.first(FIRST), 3, 9, 2, false);
     flagged & closing & !absent & first & (flags(ring, 5) == 3)
 }
 
@@ -139,7 +143,7 @@ fn is_changed(ring: &mut Ring) -> bool {
 fn is_removed(ring: &mut Ring) -> bool {
     let removed = is_watch(ring.remove(Obj(7)), 7, 40, 1, true);
     let again = ring.remove(Obj(7)).is_some();
-    removed & !again & (number(ring.holder(40)) == 0) & (ring.len() == 2)
+    removed & !again & (number(ring.holder(40)) == 0) & (ring.len(FIRST) == 2)
 }
 
 #[test]
@@ -166,7 +170,7 @@ fn the_first_that_is_ready_comes(rt: HostRuntime) -> Result<(), Fail> {
 
 // The descriptors that are wanted, in their order, each after 100 times those before it.
 fn wanted(ring: &Ring, out: &mut Vec<Want>) -> Result<u64, Fail> {
-    ring.wants(out)?;
+    ring.wants(FIRST, out)?;
     let mut sum: u64 = 0;
     for want in &*out {
         sum = sum.wrapping_mul(100).wrapping_add(u64::from(want.fd));
@@ -276,6 +280,67 @@ fn many_leave_downward_and_then_upward(rt: HostRuntime) -> Result<(), Fail> {
     assert!(rt; add_all(&mut ring, 1_000_000));
     let last = first_of_two(rt.alloc(), &ring, want(999_999, 1), want(1_000_000, 1))?;
     let removed = remove_each(&mut ring, 500_000);
-    assert!(rt; (last == 10_000_001) & removed & ring.is_empty());
+    assert!(rt; (last == 10_000_001) & removed & ring.is_empty(FIRST));
+    Ok(())
+}
+
+// Each event joins in this context. Answers whether it was free; if not, nothing changes.
+fn add_in(ring: &mut Ring, x: u64, fd: u32, c: Obj) -> bool
+    requires room { 0 < ring.old.spare }
+    requires known { has_context ring.old.contexts c ≡ true }
+    ensures spare { ring.old.spare ≤ ring.new.spare + 1 }
+    ensures contexts { ring.new.contexts ≡ ring.old.contexts }
+{
+    let free = ring.watch(Obj(x)).is_none() && ring.holder(fd).is_none();
+    if free {
+        ring.add(Obj(x), fd, 1, c);
+    }
+    free
+}
+
+// The first event of a context that comes where the descriptors 1 to 4 are ready for reading, 0 where none comes.
+fn first_of_four(alloc: Global, ring: &Ring, c: Obj) -> Result<u64, Fail> {
+    let wants = vec![in alloc; want(1, 1), want(2, 1), want(3, 1), want(4, 1)]?;
+    let Some(ready) = Wants::make(wants) else {
+        return Ok(0);
+    };
+    Ok(number(ring.first_ready(c, &ready).map(|event| event.object)))
+}
+
+#[test]
+fn each_context_has_its_rotation(rt: HostRuntime) -> Result<(), Fail> {
+    let mut ring = with_room(rt.alloc(), 4)?;
+    ring.reserve_context()?;
+    ring.add_context(Obj(9));
+    let first = add_in(&mut ring, 11, 1, FIRST);
+    let second = add_in(&mut ring, 12, 2, Obj(9));
+    let third = add_in(&mut ring, 13, 3, FIRST);
+    let fourth = add_in(&mut ring, 14, 4, Obj(9));
+    assert!(rt; first & second & third & fourth);
+    let here = first_of_four(rt.alloc(), &ring, FIRST)?;
+    let there = first_of_four(rt.alloc(), &ring, Obj(9))?;
+    ring.turn_back(Obj(12));
+    let turned = first_of_four(rt.alloc(), &ring, Obj(9))?;
+    assert!(rt; (here == 11) & (there == 12) & (turned == 14));
+    assert!(rt; (ring.len(FIRST) == 2) & (ring.len(Obj(9)) == 2) & (ring.total() == 4));
+    Ok(())
+}
+
+#[test]
+fn the_events_of_a_dropped_context_are_lost(rt: HostRuntime) -> Result<(), Fail> {
+    let mut ring = with_room(rt.alloc(), 4)?;
+    ring.reserve_context()?;
+    ring.add_context(Obj(9));
+    add_in(&mut ring, 12, 2, Obj(9));
+    add_in(&mut ring, 11, 1, FIRST);
+    add_in(&mut ring, 14, 4, Obj(9));
+    ring.drop_context(Obj(9));
+    let here = first_of_four(rt.alloc(), &ring, FIRST)?;
+    let there = first_of_four(rt.alloc(), &ring, Obj(9))?;
+    assert!(rt; (here == 11) & (there == 0));
+    assert!(rt; (ring.len(Obj(9)) == 0) & (ring.total() == 3));
+    assert_eq!(rt; number(ring.holder(2)), 12);
+    let lost = ring.remove(Obj(12)).expect(&rt, "a lost event");
+    assert!(rt; lost.context.is_none() & (ring.total() == 2));
     Ok(())
 }

@@ -6,13 +6,15 @@ use Rattle.tree_specs.specs.declared.question.Ask.{Ask}
 use Rattle.tree_specs.specs.declared.call.Call.{Call}
 use Rattle.tree_specs.specs.declared.reply.Refusal.{Refusal}
 use Rattle.tree_specs.specs.declared.reply.Reply.TheVariants as reply
-use Rattle.tree_specs.specs.declared.test.Test.TheVariants.{IsObject, IsOwner, IsNotDying, IsNotInside, MayGive}
-use Rattle.tree_specs.specs.Tree.Pool.{Pool, is_below, owner_of}
+use Rattle.tree_specs.specs.declared.test.Test.TheVariants.{IsObject, IsOwner, IsContext, IsNotDying, IsNotInside, MayGive}
+use Rattle.tree_specs.specs.Words.Objects.{same, first_context}
+use Rattle.tree_specs.specs.Tree.Pool.{Pool, is_below, is_usable, owner_of}
 use Rattle.tree_specs.specs.Calls.Refusals.{Check, ◌before◌, checked, tests, refusals}
-use Rattle.tree_specs.specs.Calls.Passed.{Passed, AllPassed, Itself, ItsRef}
+use Rattle.tree_specs.specs.Calls.Passed.{Passed, AllPassed, First, Stays, Itself, ItsRef}
 use Rattle.tree_specs.specs.Calls.Plans.{Plan, plan, unless_refused}
 use Rattle.tree_specs.specs.Machine.Table.{call_step, plan_step, replied, release_object, over_step}
 use Rattle.tree_specs.proofs.Calls.Checks.{all-pass, may-place}
+use Rattle.tree_specs.proofs.Tree.Numbered.{by_test}
 use Rattle.tree_specs.proofs.Calls.Plans.{ref-placed}
 use Rattle.tree_specs.specs.declared.frame.Frame.{Frame}
 use Rattle.tree_specs.specs.Invariants.Sound.{Sound}
@@ -79,6 +81,11 @@ may_go p o x is there staying outside = placeable p o x (may-place p o x is ther
 pub may_go_itself : (p : Pool) (from to : Owner) (x : Obj) → Passed p (IsObject x) → Passed p (IsOwner to) → Passed p (IsNotDying x) → Passed p (MayGive from to x) → is_below (owner_of p.rows x) from ≡ true → MayPlace p.rows x to
 may_go_itself p from to x is there staying (Itself own outside) below = may_go p to x is there staying outside
 may_go_itself p from to x is there staying (ItsRef r other n) below = cc
+
+-- something may come in a context
+pub may_use : (p : Pool) (context : Obj) → Passed p (IsContext context) → is_usable p.rows context ≡ true
+may_use p context (First e) = rw e refl
+may_use p context (Stays kind mark) = by_test (same context first_context) (λ t. rw t refl) (λ t. rw (t, kind, mark) refl)
 
 -- a reference goes wherever there is an owner
 pub refs-go : (f : Frame) (fs : List Frame) (p : Pool) → Sound f fs p → RefsMayGo p.rows

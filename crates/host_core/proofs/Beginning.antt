@@ -1,5 +1,5 @@
 -- What a step begins stands on what waits for it.
-use Rattle.std.proofs.Common.{◌≡◌, ◌+◌, List, [], ◌∷◌, ◌++◌, length, length-append, reverse, sym, ◌∙◌, ap, subst, arith}
+use Rattle.std.proofs.Common.{◌≡◌, ◌+◌, List, [], ◌∷◌, ◌++◌, reverse, sym, ◌∙◌, ap, subst, arith}
 use Rattle.std.specs.Prelude.{vec_capacity}
 use Rattle.tree_specs.specs.declared.frame.Frame.{Frame}
 use Rattle.tree_specs.specs.declared.frame.Frame.TheVariants as frame
@@ -21,7 +21,7 @@ use Rattle.host_core.specs.declared.step.Step.{Step}
 use Rattle.host_core.specs.declared.waiting.Waiting.{Waiting}
 use Rattle.host_core.specs.Stacks.{waiting_frame, active_frame, Fits, FreesFit, other_view, freeing_view}
 use Rattle.host_core.specs.Steps.{IsOther, IsWaiter}
-use Rattle.host_core.specs.Places.{count_undrained, drains_after, owed, places, HasPlacesFor}
+use Rattle.host_core.specs.Places.{count_undrained, drains_after, owed, own_place, places, taken_places, HasPlacesFor}
 use Rattle.host_core.specs.Hosts.{host_view, below_in, PartsReady, TellsSameStory, IsBetweenSteps}
 use Rattle.host_core.specs.Going.{stepped_view}
 use Rattle.host_core.proofs.Draining.{run-trying, silently-fewer}
@@ -29,14 +29,12 @@ use Rattle.host_core.proofs.Emptied.{may-forget}
 use Rattle.host_core.proofs.StepsSilently.{stays}
 use Rattle.host_core.proofs.FreeSteps.{silently-along}
 use Rattle.host_core.proofs.Hosting.{begun-awaits}
+use Rattle.host_core.proofs.KeptPlace.{one_more, own_more, parting_kept}
 use Rattle.host_core.proofs.Going.{other-seen, other-fit, has-places, pushed, below-waiter, below-begun, none-ahead, fits-silently}
 
 -- where a step leads that puts this on what waits
 abbrev pub begun_view : Frame → Waiting → Parts → View
 begun_view f w parts = record { innermost = f; below = waiting_frame w ∷ below_in parts; pool = parts.objects.pool }
-
-one-more : (old new : List Waiting) (w : Waiting) → new ≡ old ++ w ∷ [] → length new ≡ length old + 1
-one-more old new w e = ap length e ∙ length-append old (w ∷ [])
 
 -- ---- a work that is no free
 
@@ -63,13 +61,13 @@ module _ (step : Step) (first : Active) (w : Waiting) (old new : Parts) (leads_t
   calls_ready fit ready room cap =
       let fits : Fits old.objects.works (w ∷ ws) = (below-waiter old.objects.works w ws waits).1 fit in
       let fits' : Fits old.objects.works (reverse new.waiting.items) = subst (Fits old.objects.works) (sym turned) fits in
-      let n = one-more old.waiting.items new.waiting.items w push in
+      let n = one_more old.waiting.items new.waiting.items w push in
       let counts : owed new.objects.pool ≡ owed old.objects.pool = ap (λ (o : Objects). owed o.pool) same in
       record {
         whole = subst IsConsistent leads whole;
         fit = other-fit first new.objects.works (reverse new.waiting.items) other (subst (λ (o : Objects). Fits o.works (reverse new.waiting.items)) (sym same) fits');
         ready = ready;
-        places = has-places first (length new.waiting.items) new.objects (vec_capacity new.waiting) other (omega (arith, room, cap, n, counts));
+        places = has-places first (taken_places new.waiting.items) new.objects (vec_capacity new.waiting) other (omega (arith, room, cap, n, counts));
       }
 
 -- ---- a free
@@ -104,9 +102,9 @@ module _ (step : Step) (f : FreeFrame) (w : Waiting) (old : Parts) (leads_to : s
       subst (λ (l : List Waiting). TellsSameStory (stepped_view step old) (freeing_view new.objects.works l new.objects.pool)) (sym (pushed old.waiting.items new.waiting.items w push)) from
 
   pub begun_ready : (new : Parts) → new.waiting.items ≡ old.waiting.items ++ w ∷ [] → Begins (f ∷ old.objects.works) old.objects.pool (frees_in new.objects) → IsAtWork (frees_in new.objects) → new.objects.pool.requests ≡ old.objects.pool.requests
-      → HasPlacesFor 3 old → vec_capacity new.waiting ≡ vec_capacity old.waiting → IsBetweenSteps active.Freeing new
+      → HasPlacesFor (own_place w + 2) old → vec_capacity new.waiting ≡ vec_capacity old.waiting → IsBetweenSteps active.Freeing new
   begun_ready new push begins at requests room cap =
-      let n = one-more old.waiting.items new.waiting.items w push in
+      let n = own_more old.waiting.items new.waiting.items w push (parting_kept w f old.objects.works old.waiting.items old.objects.pool fit (subst IsConsistent leads_to whole)) in
       let counts = ap count_unreceived requests in
       let from = plain old.objects.pool.rows in
       let fewer = (silently-fewer begun_frees (frees_in new.objects) begins.moves_on (run-trying old.objects.works on-run)).0 in
@@ -114,6 +112,6 @@ module _ (step : Step) (f : FreeFrame) (w : Waiting) (old : Parts) (leads_to : s
       record {
         whole = (begun_along new push begins).whole;
         fit = subst (FreesFit new.objects.works) (sym (pushed old.waiting.items new.waiting.items w push)) fits;
-        ready = record { at_work = at; settled = begins.settles; emptied = may-forget new.objects.works (reverse new.waiting.items) new.objects.pool (begun_along new push begins).whole };
+        ready = record { at_work = at; settled = begins.settles; forgettable = may-forget new.objects.works (reverse new.waiting.items) new.objects.pool (begun_along new push begins).whole };
         places = omega (arith, room, cap, n, counts, from, fewer);
       }

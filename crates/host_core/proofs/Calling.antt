@@ -9,7 +9,12 @@ use Rattle.tree_specs.specs.declared.question.Ask.TheVariants.{Quiet}
 use Rattle.tree_specs.specs.Calls.Plans.{Plan, changed_by}
 use Rattle.tree_specs.specs.Calls.Plans.Plan.{Does, Frees as FreesOf, Unlinks as UnlinksOf, Empties as EmptiesOf, Asks as AsksOf, Turns as TurnsOf, Works as WorksOf}
 use Rattle.tree_specs.specs.Machine.Table.{plan_step}
-use Rattle.tree_specs.specs.Tree.Pool.{Pool}
+use Rattle.tree_specs.specs.Tree.Pool.{Pool, enter}
+use Rattle.tree_specs.specs.Words.Objects.{same, first_context}
+use Rattle.tree_specs.specs.declared.object.Obj.{Obj}
+use Rattle.tree_specs.specs.declared.row.Mark.TheVariants.{Busy}
+use Rattle.tree_specs.proofs.Tree.Numbered.{by_test}
+use Rattle.host_core.proofs.Draining.{marked-fewer}
 use Rattle.tree_specs.proofs.Calls.Plans.{May}
 use Rattle.requests.specs.Register.{AreInOrder}
 use Rattle.host_core.specs.Places.{owed}
@@ -34,32 +39,39 @@ caller-takes (Goes (active.Requesting w)) f p q b e = cc
 caller-takes _ f p q b e = cc
 
 -- the objects after a plan
-abbrev pub planned_pool : Plan → Pool → Pool
-planned_pool (Does c notice r) p = changed_by c p
-planned_pool (WorksOf c errand x) p = changed_by c p
-planned_pool plan p = p
+abbrev pub planned_pool : Ask → Plan → Pool → Pool
+planned_pool q (Does c notice r) p = changed_by c p
+planned_pool q (WorksOf c errand x) p = changed_by c p
+planned_pool Quiet (TurnsOf c) p = enter p c
+planned_pool q plan p = p
 
 -- it tells and asks nothing, and leaves these objects
-pub plan-steps : (q : Ask) (plan : Plan) (p : Pool) → (speaks (plan_step q plan p) ≡ false) × (pool_in (plan_step q plan p) ≡ planned_pool plan p)
+pub plan-steps : (q : Ask) (plan : Plan) (p : Pool) → (speaks (plan_step q plan p) ≡ false) × (pool_in (plan_step q plan p) ≡ planned_pool q plan p)
 plan-steps q (Does c None r) p = (refl, refl)
 plan-steps q (Does c (Some notice) r) p = (refl, refl)
 plan-steps q (FreesOf x) p = (refl, refl)
 plan-steps q (UnlinksOf owner x) p = (refl, refl)
 plan-steps q (EmptiesOf x) p = (refl, refl)
 plan-steps q (AsksOf outside) p = (refl, refl)
-plan-steps Quiet TurnsOf p = (refl, refl)
-plan-steps _ TurnsOf p = (refl, refl)
+plan-steps Quiet (TurnsOf c) p = (refl, refl)
+plan-steps _ (TurnsOf c) p = (refl, refl)
 plan-steps q (WorksOf c errand x) p = (refl, refl)
 
+-- a context whose turn begins is no queue that a free may come to
+entered : (c : Obj) (p : Pool) → owed (enter p c) ≤ owed p
+entered c p = by_test (same c first_context)
+    (λ t. rw t (omega arith))
+    (λ t. rw t (let n = marked-fewer Busy p.rows c refl in omega (arith, n)))
+
 -- what a call begins has the places that were taken for it
-pub call-room : (q : Ask) (step : Step) (plan : Plan) (old new : Pool) → May old plan → AreInOrder old.requests → IsBusy step → step_places step ≤ 3 → step_of step new ≡ plan_step q plan old → step_places step + 2 * owed new ≤ 4 + 2 * owed old
+pub call-room : (q : Ask) (step : Step) (plan : Plan) (old new : Pool) → May old plan → AreInOrder old.requests → IsBusy step → step_places step ≤ 4 → step_of step new ≡ plan_step q plan old → step_places step + 2 * owed new ≤ 4 + 2 * owed old
 call-room q step plan old new may order busy most e = each plan may e (sym (pool-left step new) ∙ ap pool_in e ∙ (plan-steps q plan old).1)
   where
     -- with as much to come
     as-much : new ≡ old → step_places step + 2 * owed new ≤ 4 + 2 * owed old
     as-much same = let counts = ap owed same in omega (arith, most, counts)
 
-    each : (plan : Plan) → May old plan → step_of step new ≡ plan_step q plan old → new ≡ planned_pool plan old → step_places step + 2 * owed new ≤ 4 + 2 * owed old
+    each : (plan : Plan) → May old plan → step_of step new ≡ plan_step q plan old → new ≡ planned_pool q plan old → step_places step + 2 * owed new ≤ 4 + 2 * owed old
     each (Does c notice r) may e same =
         let few = (change-counted c old order may.0).few in
         let adds = may.1 in
@@ -79,4 +91,8 @@ call-room q step plan old new may order busy most e = each plan may e (sym (pool
     each (UnlinksOf owner x) may e same = as-much same
     each (EmptiesOf x) may e same = as-much same
     each (AsksOf outside) may e same = as-much same
-    each TurnsOf may e same = as-much same
+    each (TurnsOf c) may e same = enters q same
+      where
+        enters : (q : Ask) → new ≡ planned_pool q (TurnsOf c) old → step_places step + 2 * owed new ≤ 4 + 2 * owed old
+        enters Quiet same = let n = entered c old in let counts = ap owed same in omega (arith, most, counts, n)
+        enters _ same = as-much same

@@ -1,5 +1,5 @@
 -- A step of the innermost free by the parts of a host.
-use Rattle.std.proofs.Common.{◌≡◌, ℕ, ◌+◌, ◌*◌, ◌≤◌, List, [], ◌∷◌, ◌++◌, length, length-append, reverse, Option, Some, None, true, false, refl, sym, ◌∙◌, ap, subst, inr, arith}
+use Rattle.std.proofs.Common.{◌≡◌, ℕ, ◌+◌, ◌*◌, ◌≤◌, List, [], ◌∷◌, ◌++◌, reverse, Option, Some, None, true, false, refl, sym, ◌∙◌, ap, subst, inr, arith}
 use Rattle.std.specs.Prelude.{slice_get, vec_capacity}
 use Rattle.step_machine.specs.Machine.{Move as Do}
 use Rattle.tree_specs.specs.declared.frame.CallFrame.TheVariants.{Asking}
@@ -24,6 +24,7 @@ use Rattle.tree_specs.specs.declared.frame.Frame.{Frame}
 use Rattle.tree_specs.specs.declared.row.Row.{Row}
 use Rattle.tree_specs.specs.Invariants.Sound.{AllWait}
 use Rattle.tree_specs.specs.Invariants.Consistent.{IsStacked}
+use Rattle.tree_specs.specs.Invariants.Noted.{AllCalm}
 use Rattle.destructors.specs.Frees.{awaits_run}
 use Rattle.destructors.specs.Frees.{moved as free_moved, answered as frees_answered}
 use Rattle.destructors.proofs.FreeMoves.{IsMoveOf, is_move}
@@ -49,7 +50,8 @@ use Rattle.host_core.specs.Going.{with_objects, ended_view, is_news, Answers, Ca
 use Rattle.host_core.proofs.Draining.{DrainsAfter, moves-fewer, silently-fewer, try-below}
 use Rattle.host_core.proofs.Emptied.{may-forget}
 use Rattle.host_core.proofs.FreeSteps.{step-news, step-asks, step-prepares, step-ends, ends-there}
-use Rattle.host_core.proofs.Going.{pushed, below-begun, FitAfter, fit-next, fits-silently}
+use Rattle.host_core.proofs.KeptPlace.{one_more}
+use Rattle.host_core.proofs.Going.{may_free_on, pushed, below-begun, FitAfter, fit-next, fits-silently}
 use Rattle.host_core.proofs.Ending.{freed-answers}
 
 -- ---- the free that makes the step, and those below it
@@ -183,12 +185,9 @@ module _ (old : Parts) (o : Objects) (had : IsBetweenSteps active.Freeing old) (
   news_ready t s n goes = record {
     whole = (news_onward t s n).along.whole;
     fit = shown (FreesFit o.works ws) t s (λ f fs e w q k s. news-fit t (frees_in o) ws n (step-fits f fs ws p (frees_in o) w t e s));
-    ready = record { at_work = news-work t (frees_in o) n goes; settled = s.settles; emptied = may-forget o.works ws o.pool (news_onward t s n).along.whole };
+    ready = record { at_work = news-work t (frees_in o) n goes; settled = s.settles; forgettable = may-forget o.works ws o.pool (news_onward t s n).along.whole };
     places = (let room = had.places in let fewer = requests in let drains = goes-on-fewer _ t (frees_in o) (no-end t n) (drained t s) in omega (arith, room, fewer, drains));
   }
-
-  one-more : (new : Parts) → new.waiting.items ≡ old.waiting.items ++ Freeing ∷ [] → length new.waiting.items ≡ length old.waiting.items + 1
-  one-more new e = ap length e ∙ length-append old.waiting.items (Freeing ∷ [])
 
   pub asks_onward : (x : Obj) (c : Caller) (new : Parts) → new.objects ≡ o → new.waiting.items ≡ old.waiting.items ++ Freeing ∷ [] → Steps (frees_in old.objects) (AskOf x) (frees_in o)
       → ((g : ℕ) → HasHook (row_of o.pool.rows x) g → frame_of c ≡ Asking (Routine (hook_moment x g))) → StepsSilently (host_view active.Freeing old) (host_view (active.Caller c) new)
@@ -237,7 +236,7 @@ module _ (old : Parts) (o : Objects) (had : IsBetweenSteps active.Freeing old) (
     prepares-ready : vec_capacity new.waiting ≡ vec_capacity old.waiting → IsBetweenSteps (active.Requesting work) new
     prepares-ready cap =
         let counts : owed new.objects.pool ≡ owed o.pool = ap (λ (z : Objects). owed z.pool) same in
-        let n = one-more new push in
+        let n = one_more old.waiting.items new.waiting.items Freeing push in
         let room = had.places in
         let fewer = requests in
         let takes = before.few o.pool.rows in
@@ -245,7 +244,7 @@ module _ (old : Parts) (o : Objects) (had : IsBetweenSteps active.Freeing old) (
         record {
           whole = prepares-onward.along.whole;
           fit = marked asked new same push (shown (FreesFit o.works ws) asked steps (λ f fs e w q k s. asks-fit asked g (frees_in o) ws before.asks (step-fits f fs ws p (frees_in o) w asked e s)));
-          ready = rw same (before.may o (inr (subst (λ (fs : List FreeFrame). IsPreparing (slice_get fs 0)) (sym first.1) before.waits)));
+          ready = rw same (before.may o (inr (may_free_on (slice_get o.works 0) (subst (λ (fs : List FreeFrame). IsPreparing (slice_get fs 0)) (sym first.1) before.waits))));
           places = omega (arith, room, fewer, cap, n, counts, takes, drains);
         }
 
@@ -263,8 +262,9 @@ module _ (old : Parts) (o : Objects) (had : IsBetweenSteps active.Freeing old) (
       let stands = below-begun fs ws runs' in
       let waits : AllWait (standing fs ws) = rw stands at w.sound.waiting in
       let seated : IsStacked (frame.Free f) (standing fs ws) = rw stands at w.seated in
+      let calm : AllCalm (standing fs ws) = rw stands at w.calm.1 in
       let fits : Fits fs ws = subst (λ (z : List FreeFrame). Fits z ws) are (step-fits f fs ws p (frees_in o) w (Done a) e s) in
-      freed-answers f fs ws a o are runs' fits waits seated)
+      freed-answers f fs ws a o are runs' fits waits seated calm)
 
   ends-leads : (a : FreeReply) → Steps (frees_in old.objects) (Done a) (frees_in o) → GoesOn (Done a) (frees_in o) → LeadsToEnd (host_view active.Freeing old) (Freed a) (record { waiting = old.waiting; objects = o })
   ends-leads a s goes =

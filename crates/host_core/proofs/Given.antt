@@ -1,5 +1,5 @@
 -- What is given to whoever has asked, and what it leads to, by the parts of a host.
-use Rattle.std.proofs.Common.{◌≡◌, ℕ, ◌≤◌, Bool, List, reverse, Option, Some, None, true, false, refl, sym, ◌∙◌, ap, subst, arith}
+use Rattle.std.proofs.Common.{◌≡◌, inl, ℕ, ◌≤◌, Bool, List, reverse, Option, Some, None, true, false, refl, sym, ◌∙◌, ap, subst, arith}
 use Rattle.std.specs.Prelude.{is_none}
 use Rattle.tree_specs.specs.declared.call.Call.{Call}
 use Rattle.tree_specs.specs.declared.frame.CallFrame.TheVariants.{Doing, Returning}
@@ -16,15 +16,15 @@ use Rattle.tree_specs.specs.declared.frame.TurnFrame.TheVariants.{Timing, Pollin
 use Rattle.tree_specs.specs.declared.question.Ask.{Ask}
 use Rattle.tree_specs.specs.declared.question.Input.{Input}
 use Rattle.tree_specs.specs.declared.question.Input.TheVariants as input
-use Rattle.tree_specs.specs.Calls.Plans.{planned}
-use Rattle.tree_specs.specs.Calls.Refusals.{refusals}
+use Rattle.tree_specs.specs.Calls.Plans.{planned_at}
+use Rattle.tree_specs.specs.Calls.Refusals.{refusals_at}
 use Rattle.tree_specs.specs.Events.Coming.{looks_again}
 use Rattle.tree_specs.specs.Events.Rotation.{Ready, first_ready}
 use Rattle.tree_specs.specs.Invariants.Consistent.{IsConsistent}
 use Rattle.tree_specs.specs.Machine.Table.{call_step, outside_step}
 use Rattle.tree_specs.specs.Texts.Schedule.{misfit}
-use Rattle.tree_specs.specs.Tree.Pool.{Pool}
-use Rattle.tree_specs.proofs.Calls.Plans.{may-planned}
+use Rattle.tree_specs.specs.Tree.Pool.{Pool, ring_here}
+use Rattle.tree_specs.proofs.Calls.Plans.{may-planned-at}
 use Rattle.object_pool.specs.Objects.{Objects, RefsMayGo}
 use Rattle.host_core.specs.declared.active.Active.{Active}
 use Rattle.host_core.specs.declared.active.Active.TheVariants as active
@@ -45,7 +45,7 @@ use Rattle.host_core.specs.Reaches.{is_bytes, IsShortAnswer, short_answer, pool_
 use Rattle.host_core.specs.Stacks.{Fits, active_frame, other_view}
 use Rattle.host_core.specs.Steps.{step_of, IsBusy}
 use Rattle.host_core.specs.Turns.{turn_asks, turn_given, frame_looked}
-use Rattle.host_core.specs.Hosts.{host_view, below_in, speaking_view, given_view, called_view, returning_view, speaks, asked_now, FrameReady, PartsReady, HasRoom, IsActing, IsBetweenSteps, MayTake, TellsSameStory, StepsSilently}
+use Rattle.host_core.specs.Hosts.{host_view, below_in, speaking_view, given_view, called_view, returning_view, speaks, asked_now, caller_asked, FrameReady, PartsReady, HasRoom, IsActing, IsBetweenSteps, MayTake, TellsSameStory, StepsSilently}
 use Rattle.host_core.proofs.Allowed.{refs-go}
 use Rattle.host_core.proofs.Answering.{caller-acts, short-answer}
 use Rattle.host_core.proofs.Calling.{plan-steps, call-room}
@@ -64,21 +64,21 @@ module _ (q : Ask) (c : Call) (old : Parts) (whole : IsConsistent (called_view q
   pub call_queues : QueuesAreKept old.objects.pool
   call_queues = whole.queued.pool.queues
 
-  module _ (step : Step) (motion : Motion) (o : Objects) (steps : step_of step o.pool ≡ move_of q motion o.pool) (moved : move_of q motion o.pool ≡ call_step (refusals old.objects.pool c) q c old.objects.pool) (works : o.works ≡ old.objects.works) where
+  module _ (step : Step) (motion : Motion) (o : Objects) (steps : step_of step o.pool ≡ move_of q motion o.pool) (moved : move_of q motion o.pool ≡ call_step (refusals_at q old.objects.pool c) q c old.objects.pool) (works : o.works ≡ old.objects.works) where
     pub call_onward : StepsSilently (called_view q (input.Call c) old) (stepped_view step (record { waiting = old.waiting; objects = o }))
-    call_onward = step_onward (frame.Call (Doing q c)) step old o whole (steps ∙ moved) works (plan-steps q (planned old.objects.pool c) old.objects.pool).0
+    call_onward = step_onward (frame.Call (Doing q c)) step old o whole (steps ∙ moved) works (plan-steps q (planned_at q old.objects.pool c) old.objects.pool).0
 
     pub call_fit : Fits old.objects.works (reverse old.waiting.items) → Fits o.works (reverse old.waiting.items)
     call_fit fit = subst (λ (fs : List FreeFrame). Fits fs (reverse old.waiting.items)) (sym works) fit
 
-    pub call_places : IsBusy step → step_places step ≤ 3 → HasRoom old → HasPlacesFor (step_places step) (record { waiting = old.waiting; objects = o })
+    pub call_places : IsBusy step → step_places step ≤ 4 → HasRoom old → HasPlacesFor (step_places step) (record { waiting = old.waiting; objects = o })
     call_places busy most room =
-        let few = call-room q step (planned old.objects.pool c) old.objects.pool o.pool (may-planned (frame.Call (Doing q c)) _ old.objects.pool whole.sound c) room.order busy most (steps ∙ moved) in
+        let few = call-room q step (planned_at q old.objects.pool c) old.objects.pool o.pool (may-planned-at (frame.Call (Doing q c)) _ old.objects.pool whole.sound q c) room.order busy most (steps ∙ moved) in
         let places = room.places in
         omega (arith, few, places)
 
   -- a call that is replied to at once leaves its caller at the reply
-  module _ (motion : Motion) (o : Objects) (moved : move_of q motion o.pool ≡ call_step (refusals old.objects.pool c) q c old.objects.pool) (works : o.works ≡ old.objects.works) (b : ShortReply) (is : motion ≡ Replies b)
+  module _ (motion : Motion) (o : Objects) (moved : move_of q motion o.pool ≡ call_step (refusals_at q old.objects.pool c) q c old.objects.pool) (works : o.works ≡ old.objects.works) (b : ShortReply) (is : motion ≡ Replies b)
       (next : Active) (tells : active_frame next ≡ frame.Call (telling q b)) (fit : Fits old.objects.works (reverse old.waiting.items)) where
     abbrev after : Parts
     after = record { waiting = old.waiting; objects = o }
@@ -104,11 +104,19 @@ module _ (q : Ask) (c : Call) (old : Parts) (whole : IsConsistent (called_view q
     pub replied_speaks : speaking_view (host_view next after) ≡ true
     replied_speaks = stands.speaks
 
+-- a call was done for the caller that was asked
+pub moved_for : (now : Active) (asked q : Ask) (c : Call) (motion : Motion) (old new : Pool) → caller_asked now ≡ Some asked → caller_asked now ≡ Some q
+    → move_of asked motion new ≡ call_step (refusals_at asked old c) asked c old → move_of q motion new ≡ call_step (refusals_at q old c) q c old
+moved_for now asked q c motion old new a e moved =
+    let both : Some asked ≡ Some q = sym a ∙ e in
+    let same : asked ≡ q = cc in
+    subst (λ (z : Ask). move_of z motion new ≡ call_step (refusals_at z old c) z c old) same moved
+
 -- what a call does first leads on
-pub call_leads : (q : Ask) (c : Call) (o : Objects) (motion : Motion) (parts : Parts) (step : Step) → BeginsWith q c o motion parts → step_of step parts.objects.pool ≡ move_of q motion parts.objects.pool → IsBusy step → step_places step ≤ 3
+pub call_leads : (q : Ask) (c : Call) (o : Objects) (motion : Motion) (parts : Parts) (step : Step) → BeginsWith q c o motion parts → step_of step parts.objects.pool ≡ move_of q motion parts.objects.pool → IsBusy step → step_places step ≤ 4
     → StepReady step parts.objects → StepAnswers step (reverse parts.waiting.items) parts.objects → LeadsOn (called_view q (input.Call c) (with_objects o parts)) step parts
 call_leads q c o motion parts step b steps busy most ready answers =
-    step_leads (frame.Call (Doing q c)) step (with_objects o parts) parts.objects b.whole (steps ∙ b.moved) b.works (plan-steps q (planned o.pool c) o.pool).0 b.fit 3 (record { busy = busy; ready = ready; places = most }) answers
+    step_leads (frame.Call (Doing q c)) step (with_objects o parts) parts.objects b.whole (steps ∙ b.moved) b.works (plan-steps q (planned_at q o.pool c) o.pool).0 b.fit 4 (record { busy = busy; ready = ready; places = most }) answers
     (call_places q c (with_objects o parts) b.whole step motion parts.objects steps b.moved b.works busy most b.room)
 
 -- a caller is answered with a call, or with what a routine does
@@ -153,11 +161,11 @@ given-frame (Polling limit) i p o fits ready = looks i
   where
     looked : (b : Bool) (r : Option Ready) → FrameReady (frame_looked b r) o × (turn_places (frame_looked b r) ≤ 4)
     looked true r = (tt, omega arith)
-    looked false None = (tt, omega arith)
-    looked false (Some r) = (tt, omega arith)
+    looked false None = (inl ready, omega arith)
+    looked false (Some r) = (ready, omega arith)
 
     looks : (i : Input) → FrameReady (turn_given (Polling limit) i p) o × (turn_places (turn_given (Polling limit) i p) ≤ 4)
-    looks (input.Ready wants) = looked (looks_again p wants) (first_ready p.ring wants)
+    looks (input.Ready wants) = looked (looks_again p wants) (first_ready (ring_here p) wants)
     looks _ = (tt, omega arith)
 given-frame _ i p o fits ready = cc
 
@@ -205,7 +213,7 @@ module _ (now : Active) (q : Ask) (i : Input) (old : Parts) (is : now ≡ active
         record {
           onward = onward;
           may = record {
-            answers = heard-answers (outside_given q i) b old.objects.works (reverse old.waiting.items) o fit here.sound.waiting here.seated;
+            answers = heard-answers (outside_given q i) b old.objects.works (reverse old.waiting.items) o fit here.sound.waiting here.seated here.calm.1;
             whole = onward.along.whole;
             fit = subst (λ (fs : List FreeFrame). Fits fs (reverse old.waiting.items)) (sym works) fit;
             places = omega (arith, places, counts);

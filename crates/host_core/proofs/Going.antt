@@ -23,7 +23,8 @@ use Rattle.host_core.specs.Steps.{IsOther, IsWaiter}
 use Rattle.host_core.specs.declared.step.Step.{Step}
 use Rattle.tree_specs.specs.declared.frame.Errand.{Errand}
 use Rattle.tree_specs.specs.declared.frame.Errand.TheVariants.{Receive}
-use Rattle.object_pool.specs.Objects.{Objects}
+use Rattle.destructors.specs.Engine.{IsPreparing}
+use Rattle.object_pool.specs.Objects.{Objects, MayFreeOn}
 use Rattle.host_core.specs.Going.{GoesWell}
 use Rattle.host_core.specs.Places.{owed, places, errand_places, HasPlaces}
 
@@ -116,6 +117,12 @@ fits-silently s t ws (On u _ earlier last) e = each u.works (fits-silently s u w
     each : (works : List FreeFrame) → FreesFit works ws → moves works u.pool ≡ (None, t) → FreesFit t.works ws
     each [] k m = absurd k.0
     each (f ∷ fs) k m = subst (λ (z : Option FreeStep × OpenFrees). FitAfter z ws) m (fit-next f fs u.pool ws k)
+
+-- ---- a free that waits lets another one begin
+
+pub may_free_on : (innermost : Option FreeFrame) → IsPreparing innermost → MayFreeOn innermost
+may_free_on None e = absurd e
+may_free_on (Some f) e = e
 
 -- ---- more places than a step takes
 

@@ -4,6 +4,7 @@ pub mod FreeSteps
 pub mod Hosting
 pub mod Ending
 pub mod Going
+pub mod KeptPlace
 pub mod Beginning
 pub mod FreeStepping
 pub mod Resuming

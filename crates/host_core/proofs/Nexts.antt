@@ -119,7 +119,7 @@ free-told e parts now o b t = rw t.still (each parts.objects.works refl b.fit b.
           ready = record {
             whole = a'.whole;
             fit = news-fit t.step (frees_in o) ws news (step-fits f fs ws parts.objects.pool (frees_in o) h t.step fit s);
-            ready = record { at_work = news-work t.step (frees_in o) news t.goes_on; settled = s.settles; emptied = may-forget o.works ws o.pool a'.whole };
+            ready = record { at_work = news-work t.step (frees_in o) news t.goes_on; settled = s.settles; forgettable = may-forget o.works ws o.pool a'.whole };
             places = omega (arith, room, fewer, drains, were);
           };
           after = a';

@@ -24,10 +24,10 @@ use Rattle.tree_specs.specs.declared.frame.OutsideFrame.TheVariants.{Reaching}
 use Rattle.tree_specs.specs.declared.frame.CallFrame.{CallFrame}
 use Rattle.tree_specs.specs.declared.frame.CallFrame.TheVariants.{Asking, Doing, Telling}
 use Rattle.tree_specs.specs.Events.Rotation.{Ready, first_ready}
-use Rattle.tree_specs.specs.Tree.Pool.{Pool}
+use Rattle.tree_specs.specs.Tree.Pool.{Pool, ring_here}
 use Rattle.tree_specs.specs.Rules.Items.{Item}
 use Rattle.tree_specs.specs.Rules.Items.Item.{Asked}
-use Rattle.tree_specs.specs.Calls.Refusals.{refusals}
+use Rattle.tree_specs.specs.Calls.Refusals.{Check, refusals, refusals_at}
 use Rattle.tree_specs.specs.Calls.Given.{Given, given_to}
 use Rattle.tree_specs.specs.Texts.Schedule.{unless_given, misfit}
 use Rattle.tree_specs.specs.Words.Ranges.{is_sound}
@@ -172,7 +172,7 @@ turn-answered (Timing again) asked p i e m s = clock i (ap (λ (z : Option Ask).
 turn-answered (Polling limit) asked p i e m s = ready i (ap (λ (z : Option Ask). misfit z i) e ∙ m) s
   where
     ready : (i : Input) → misfit (turn_asks (Polling limit)) i ≡ None → is_sound i ≡ true → turn_taken (Polling limit) p i ≡ Some (frame.Turn (turn_given (Polling limit) i p))
-    ready (input.Ready wants) m s = by_test (looks_again p wants) (λ t. rw (s, t) refl) (λ t. rw (s, t) (ap Some (ready-goes (first_ready p.ring wants))))
+    ready (input.Ready wants) m s = by_test (looks_again p wants) (λ t. rw (s, t) refl) (λ t. rw (s, t) (ap Some (ready-goes (first_ready (ring_here p) wants))))
     ready _ m s = cc
 turn-answered _ asked p i e m s = cc
 
@@ -210,7 +210,7 @@ goes-reached q i below p o m s none h =
     goes-to (at (frame.Outside (Reaching q)) below p) q (frame.Outside (Reaching q)) (frame.Outside (outside_given q i)) i h refl (outside-answered q p i o m s none)
 
 -- a call whose report was made is at once at its reply
-goes-replied : (q : Ask) (c : Call) (r : Reply) (i : Input) (v : View) (below : List Frame) (p : Pool) → call_step (refusals p c) q c p ≡ replied q r p → Goes q i v (at (frame.Call (Doing q c)) below p)
+goes-replied : (q : Ask) (c : Call) (r : Reply) (i : Input) (v : View) (below : List Frame) (p : Pool) → call_step (refusals_at q p c) q c p ≡ replied q r p → Goes q i v (at (frame.Call (Doing q c)) below p)
     → Goes q i v (at (frame.Call (Telling (later q r) r)) below p)
 goes-replied q c r i v below p e g =
     let w : View = at (frame.Call (Doing q c)) below p in
@@ -223,6 +223,11 @@ reports : (q : Ask) (i : Input) (o : Owner) → reported (call_of i) ≡ Some o 
 reports q (input.Call c) o e = ap (Doing q) (is-report c o e)
 reports q (input.Act (act.Do c)) o e = ap (Doing q) (is-report c o e)
 reports q _ o e = cc
+
+-- a report is refused alike wherever it is wanted
+report-at : (q : Ask) (o : Owner) (p : Pool) → refusals_at q p (call.Report o) ≡ refusals p (call.Report o)
+report-at (ask.Routine m) o p = refl
+report-at _ o p = refl
 
 -- ---- by the parts of a host
 
@@ -304,7 +309,7 @@ module _ (now : Active) (parts : Parts) (i : Input) (ready : IsBetweenSteps now 
         seen = λ is. f.seen is ∙ ap (λ (z : CallFrame). sight (host_view now parts).pool (Asked q) ∷ sights_of (v z) is) does;
         strays = λ is. f.strays is ∙ ap (λ (z : CallFrame). strays_of (v z) is) does;
       } in
-      let t = goes-replied q (call.Report o) r.reply i _ (below_in parts) parts.objects.pool (is.reply q) g in
+      let t = goes-replied q (call.Report o) r.reply i _ (below_in parts) parts.objects.pool (ap (λ (check : Check). call_step check q (call.Report o) parts.objects.pool) (report-at q o parts.objects.pool) ∙ is.reply q) g in
       let l : remembers q r.copy ≡ later q r.reply = copy-is q i r o parts.objects.pool (acts i o wants) fit is.reply is.copy in
       rw l (record { open_before = f.open_before; fits = f.fits; whole = t.whole; law = t.law; seen = t.seen; strays = t.strays })
 

@@ -85,7 +85,7 @@ module _ (v : View) (now : Active) (parts : Parts) (c : Call) (b : IsBetweenStep
     pub quiet-whole : (q : Ask) → caller_asked now ≡ Some q → IsConsistent (called_view q (input.Call c) new)
     quiet-whole q e = subst IsConsistent (sym (same q)) (offered-caller now parts (input.Call c) b fits sound q e).whole
 
-    pub quiet-room : report_of c ≡ None → AreInOrder parts.objects.pool.requests → length new.waiting.items + 2 * (count_unreceived parts.objects.pool.requests + length parts.objects.pool.queues.running) + 4 ≤ vec_capacity new.waiting → MayTake now (input.Call c) new
+    pub quiet-room : report_of c ≡ None → AreInOrder parts.objects.pool.requests → length new.waiting.items + 2 * (count_unreceived parts.objects.pool.requests + length parts.objects.pool.queues.running) + 5 ≤ vec_capacity new.waiting → MayTake now (input.Call c) new
     quiet-room none order places = may_take now parts (input.Call c) b fits sound refl new items objects refl none order places
 
     -- it goes on

@@ -1,5 +1,5 @@
 -- What waited for a work goes on once it is over.
-use Rattle.std.proofs.Common.{◌≡◌, ℕ, ◌+◌, ◌*◌, ◌≤◌, inl, inr, List, [], ◌∷◌, ◌++◌, length, length-append, reverse, true, refl, sym, ◌∙◌, ap, subst, arith}
+use Rattle.std.proofs.Common.{◌≡◌, ℕ, ◌+◌, ◌*◌, ◌≤◌, inl, inr, List, [], ◌∷◌, ◌++◌, reverse, true, refl, sym, ◌∙◌, ap, subst, arith}
 use Rattle.std.specs.Prelude.{slice_get, vec_capacity}
 use Rattle.step_machine.specs.Machine.{Move as Do}
 use Rattle.tree_specs.specs.declared.frame.Frame.{Frame}
@@ -10,7 +10,7 @@ use Rattle.tree_specs.specs.declared.frame.Errand.TheVariants.{Receive}
 use Rattle.tree_specs.specs.declared.frame.RequestFrame.TheVariants as request
 use Rattle.tree_specs.specs.declared.object.Obj.{Obj}
 use Rattle.tree_specs.specs.declared.frame.TurnFrame.{TurnFrame}
-use Rattle.tree_specs.specs.declared.frame.TurnFrame.TheVariants.{Handling, Clearing, Serving}
+use Rattle.tree_specs.specs.declared.frame.TurnFrame.TheVariants.{Handling, Clearing, Serving, Parting}
 use Rattle.tree_specs.specs.declared.reply.Reply.{Reply}
 use Rattle.tree_specs.specs.declared.moment.What.TheVariants.{Cleanup, Cancel}
 use Rattle.tree_specs.specs.Machine.Table.{resume, turn_resume, request_resume}
@@ -35,14 +35,15 @@ use Rattle.host_core.specs.declared.work.Work.TheVariants as work
 use Rattle.host_core.specs.Requests.{WorkReady, ErrandReady}
 use Rattle.host_core.specs.Stacks.{waiting_frame, work_frame, active_frame, answer_of, standing, Fits, FreesFit, other_view, freeing_view}
 use Rattle.host_core.specs.Steps.{IsOther, IsWaiter}
-use Rattle.host_core.specs.Places.{count_undrained, drains_of, owed, places, errand_places, turn_places, work_places}
+use Rattle.host_core.specs.Places.{count_undrained, drains_of, owed, places, errand_places, turn_places, work_places, own_place, taken_places}
 use Rattle.host_core.specs.Hosts.{host_view, moved, FrameReady, PartsReady, TellsSameStory, IsBetweenSteps}
 use Rattle.host_core.specs.Going.{AnswersTo, Answers, resumed_works, answer_places, ended_view, MayEnd}
 use Rattle.host_core.proofs.Draining.{TryBelow, changed-most, without-fewer, silently-fewer, try-below}
 use Rattle.host_core.proofs.Emptied.{may-forget}
 use Rattle.host_core.proofs.StepsSilently.{stays}
 use Rattle.host_core.proofs.FreeSteps.{silently-along}
-use Rattle.host_core.proofs.Going.{other-seen, other-fit, has-places, pushed, below-waiter, fits-silently}
+use Rattle.host_core.proofs.KeptPlace.{one_fewer}
+use Rattle.host_core.proofs.Going.{may_free_on, other-seen, other-fit, has-places, pushed, below-waiter, fits-silently}
 
 -- ---- the open frees
 
@@ -73,9 +74,6 @@ answers-popped a w old new o r e =
 
 -- ---- whoever waited
 
-one-fewer : (old new : List Waiting) (w : Waiting) → old ≡ new ++ w ∷ [] → length old ≡ length new + 1
-one-fewer old new w e = ap length e ∙ length-append new (w ∷ [])
-
 module _ (a : Answer) (w : Waiting) (next : Active) (old new : Parts) (waits : IsWaiter w) (other : IsOther next) (popped : old.waiting.items ≡ new.waiting.items ++ w ∷ [])
     (same : new.objects ≡ old.objects) (resumed : active_frame next ≡ resume (waiting_frame w) (answer_of a)) (may : MayEnd a old) where
   abbrev ws : List Waiting
@@ -95,18 +93,18 @@ module _ (a : Answer) (w : Waiting) (next : Active) (old new : Parts) (waits : I
   pub end_along : TellsSameStory (ended_view a old) (host_view next new)
   end_along = subst (TellsSameStory (ended_view a old)) leads (stays (ended_view a old) may.whole)
 
-  pub end_ready : PartsReady next new.objects → places next ≤ 1 + answer_places a → vec_capacity new.waiting ≡ vec_capacity old.waiting → IsBetweenSteps next new
+  pub end_ready : PartsReady next new.objects → places next ≤ own_place w + answer_places a → vec_capacity new.waiting ≡ vec_capacity old.waiting → IsBetweenSteps next new
   end_ready ready few cap =
       let room = may.places in
       let fit' : Fits old.objects.works (w ∷ ws) = subst (Fits old.objects.works) turned may.fit in
       let fits : Fits new.objects.works ws = subst (λ (o : Objects). Fits o.works ws) (sym same) ((below-waiter old.objects.works w ws waits).2 fit') in
-      let n = one-fewer old.waiting.items new.waiting.items w popped in
+      let n = one_fewer old.waiting.items new.waiting.items w popped in
       let counts : owed new.objects.pool ≡ owed old.objects.pool = ap (λ (o : Objects). owed o.pool) same in
       record {
         whole = subst IsConsistent leads may.whole;
         fit = other-fit next new.objects.works ws other fits;
         ready = ready;
-        places = has-places next (length new.waiting.items) new.objects (vec_capacity new.waiting) other (omega (arith, few, room, cap, n, counts));
+        places = has-places next (taken_places new.waiting.items) new.objects (vec_capacity new.waiting) other (omega (arith, few, room, cap, n, counts));
       }
 
 -- what waited is given this answer
@@ -165,14 +163,14 @@ module _ (a : Answer) (old new : Parts) (popped : old.waiting.items ≡ new.wait
   again_ready at settled requests cap =
       let few = again-places a old.objects (end_answers a Freeing old new may popped) in
       let room = may.places in
-      let n = one-fewer old.waiting.items new.waiting.items Freeing popped in
+      let n = one_fewer old.waiting.items new.waiting.items Freeing popped in
       let counts = ap count_unreceived requests in
       let below : TryBelow (resumed_works a old.objects.works) = tries (resumed_works a old.objects.works) (subst IsConsistent free-leads may.whole) in
       let fewer = (silently-fewer resumed_frees (frees_in new.objects) begins.moves_on below).0 in
       record {
         whole = again_along.whole;
         fit = fits-silently resumed_frees (frees_in new.objects) free_ws begins.moves_on (each old.objects.works free-fits);
-        ready = record { at_work = at; settled = settled; emptied = may-forget new.objects.works free_ws new.objects.pool again_along.whole };
+        ready = record { at_work = at; settled = settled; forgettable = may-forget new.objects.works free_ws new.objects.pool again_along.whole };
         places = omega (arith, few, room, cap, n, counts, fewer);
       }
     where
@@ -186,10 +184,11 @@ module _ (a : Answer) (old new : Parts) (popped : old.waiting.items ≡ new.wait
 
 -- ---- what a turn or the work of a request may want then
 
-pub turn_ready : (a : Answer) (t : TurnFrame) (o : Objects) → AnswersTo a (Turn t) o → FrameReady (turn_resume t) o × (turn_places (turn_resume t) ≤ 1 + answer_places a)
-turn_ready (Freed r) (Clearing x) o e = (tt, omega arith)
+pub turn_ready : (a : Answer) (t : TurnFrame) (o : Objects) → AnswersTo a (Turn t) o → FrameReady (turn_resume t) o × (turn_places (turn_resume t) ≤ own_place (Turn t) + answer_places a)
+turn_ready (Freed r) (Clearing x) o e = (e, omega arith)
+turn_ready (Freed r) (Parting x v) o e = (e, omega arith)
 turn_ready (Returned v) (Handling what x handler occasion) o e = (e, omega arith)
-turn_ready (Heard r) (Serving x) o e = (tt, omega arith)
+turn_ready (Heard r) (Serving x) o e = (e, omega arith)
 turn_ready _ _ o e = absurd e
 
 errand-ready : (errand : Errand) (o : Objects) → o.ready ≡ true → ErrandReady errand o × (errand_places errand ≤ 3)
@@ -210,7 +209,7 @@ cleaned-ready _ x errand o ready k = cc
 
 pub work_ready : (a : Answer) (w r : Work) (o : Objects) → AnswersTo a (WorkOf w) o → work_frame r ≡ request_resume (work_frame w) (answer_of a) → WorkReady r o × (work_places r ≤ 1 + answer_places a)
 work_ready (Freed b) (work.Releasing child) r o e k = let w = over-ready r _ o k in let few = w.1 in (w.0, omega (arith, few))
-work_ready (Freed b) (work.Dropping queue entry) r o e k = let w = vacating-ready r queue o (inr e) k in let few = w.1 in (w.0, omega (arith, few))
+work_ready (Freed b) (work.Dropping queue entry) r o e k = let w = vacating-ready r queue o (inr (may_free_on (slice_get o.works 0) e)) k in let few = w.1 in (w.0, omega (arith, few))
 work_ready (Returned v) (work.Called Cleanup x handler errand) r o e k = let w = cleaned-ready r x errand o e k in let few = w.1 in (w.0, omega (arith, few))
 work_ready (Returned v) (work.Called Cancel x handler errand) r o e k = let w = over-ready r _ o k in let few = w.1 in (w.0, omega (arith, few))
 work_ready (Returned v) (work.Called _ x handler errand) r o e k = let w = over-ready r _ o k in let few = w.1 in (w.0, omega (arith, few))

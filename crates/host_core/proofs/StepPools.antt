@@ -1,14 +1,18 @@
 -- The steps of turns and works, one by one: whether each tells or asks something, and the objects that it leaves.
-use Rattle.std.proofs.Common.{◌≡◌, ℕ, ◌+◌, ◌*◌, ◌≤◌, Bool, true, false, nat_eq, nat_le, Option, Some, None, is_some, refl, arith}
+use Rattle.std.proofs.Common.{◌≡◌, ℕ, ◌+◌, ◌*◌, ◌≤◌, Bool, true, false, nat_eq, nat_le, List, Option, Some, None, is_some, refl, arith}
 use Rattle.step_machine.specs.Machine.{Move}
 use Rattle.step_machine.specs.Machine.{Move as Do}
+use Rattle.tree_specs.specs.declared.coming.Coming.{Coming}
 use Rattle.tree_specs.specs.declared.due.Due.{Due}
+use Rattle.tree_specs.specs.declared.kind.Kind.{Kind}
+use Rattle.tree_specs.specs.declared.kind.Kind.TheVariants.{Context}
+use Rattle.tree_specs.specs.declared.row.Row.{Row}
 use Rattle.tree_specs.specs.declared.frame.Answer.{Answer}
 use Rattle.tree_specs.specs.declared.frame.Errand.{Errand}
 use Rattle.tree_specs.specs.declared.frame.Errand.TheVariants.{Finish}
 use Rattle.tree_specs.specs.declared.frame.Frame.{Frame}
 use Rattle.tree_specs.specs.declared.frame.TurnFrame.{TurnFrame}
-use Rattle.tree_specs.specs.declared.frame.TurnFrame.TheVariants.{Taking, Timed, Starting, Handled}
+use Rattle.tree_specs.specs.declared.frame.TurnFrame.TheVariants.{Taking, Timed, Starting, Handled, Closing}
 use Rattle.tree_specs.specs.declared.handler.Handler.{Handler}
 use Rattle.tree_specs.specs.declared.moment.What.{What}
 use Rattle.tree_specs.specs.declared.moment.What.TheVariants.{Timer as ForTimer}
@@ -24,10 +28,14 @@ use Rattle.tree_specs.specs.Events.Coming.{at_time, handler_for, goes_after}
 use Rattle.tree_specs.specs.Events.Pending.{first}
 use Rattle.tree_specs.specs.Events.Queues.{Head, has_queue, head_of, next_of}
 use Rattle.tree_specs.specs.Events.Requests.{note_of, is_noted, is_unreceived, cleanup_in, cancel_in}
-use Rattle.tree_specs.specs.Machine.Table.{come_step, soon_step, due_now, due_step, taking_step, early_step, timed_step, starting_step, handled_step, turn_step, cancelling_step, cleaning_step, release_object, cleaned_step, callback_step, notifying_step, receiving_step, vacating_step, triggering_step, request_step}
+use Rattle.tree_specs.specs.Machine.Table.{come_step, soon_step, due_now, due_step, taking_step, early_step, timed_step, starting_step, handled_step, closing_step, turn_step, cancelling_step, cleaning_step, release_object, cleaned_step, callback_step, deferred_step, notifying_step, receiving_step, vacating_step, triggering_step, request_step}
 use Rattle.tree_specs.specs.Rules.Errands.{is_receive}
 use Rattle.tree_specs.specs.Rules.Items.{Item}
-use Rattle.tree_specs.specs.Tree.Pool.{Pool, marked_row, disarm, unschedule, run_queue}
+use Rattle.tree_specs.specs.Tree.Pool.{Pool, row_of, changed, marked_row, soon_here, times_here, is_usable, disarm, unschedule, run_queue}
+use Rattle.tree_specs.specs.Tree.Targets.{is_context}
+use Rattle.tree_specs.specs.Calls.Refusals.{is_doomed, is_queue}
+use Rattle.tree_specs.specs.Invariants.Sound.{IsTurning, TurnedAt}
+use Rattle.tree_specs.proofs.Turns.Lowering.{total-kept}
 use Rattle.tree_specs.proofs.Invariants.Turning.{rotated-rows}
 use Rattle.tree_specs.proofs.Tree.Numbered.{by_test}
 use Rattle.host_core.specs.declared.step.Step.{Step}
@@ -35,11 +43,11 @@ use Rattle.host_core.specs.declared.step.Step.TheVariants.{Goes, Calls, Frees, U
 use Rattle.host_core.specs.declared.work.Work.{Work}
 use Rattle.host_core.specs.declared.work.Work.TheVariants as work
 use Rattle.host_core.specs.Hosts.{speaks}
-use Rattle.host_core.specs.Places.{count_undrained, turn_takes, turn_places}
+use Rattle.host_core.specs.Places.{count_undrained, undrained, turn_takes, turn_places}
 use Rattle.host_core.specs.Requests.{work_speaks}
 use Rattle.host_core.specs.Stacks.{work_frame}
 use Rattle.host_core.specs.Steps.{step_of}
-use Rattle.host_core.specs.Turns.{turn_speaks}
+use Rattle.host_core.specs.Turns.{MayTurn, turn_speaks}
 use Rattle.host_core.proofs.Draining.{changed-most, marked-fewer}
 
 abbrev pub pool_in : Move Frame Answer Pool Item → Pool
@@ -79,9 +87,9 @@ due : (o : Option Due) (p : Pool) → Keeps (due_step o p) false p
 due None p = (refl, refl)
 due (Some d) p = by_test (nat_eq d.time 0) (λ t. rw t (due-at d.object 0 p)) (λ t. rw t (refl, refl))
 
-taking : (o : Option Obj) (p : Pool) → Keeps (taking_step o p) false p
-taking None p = due (first p.times) p
-taking (Some x) p = soon (is_noted p.requests x) (has_queue p.queues x) x (unschedule p x) refl
+taking : (o : Option Coming) (p : Pool) → Keeps (taking_step o p) false p
+taking None p = due (first (times_here p)) p
+taking (Some y) p = soon (is_noted p.requests y.object) (has_queue p.queues y.object) y.object (unschedule p y.object) refl
 
 early : (again : Bool) (d : Due) (now : ℕ) (p : Pool) → Keeps (early_step again d now p) false p
 early true d now p = (refl, refl)
@@ -101,20 +109,41 @@ handled : (x : Obj) (b : Bool) (p : Pool) → (speaks (handled_step x b p) ≡ f
 handled x true p = (refl, changed-most (marked_row Quiet) p.rows x)
 handled x false p = (refl, changed-most (marked_row Quiet) p.rows x)
 
+-- a context is no queue
+context-marked : (rs : List Row) (c : Obj) → IsTurning (row_of rs c) → count_undrained (changed (marked_row Quiet) rs c) ≡ count_undrained rs
+context-marked rs c turning = each (row_of rs c) refl turning
+  where
+    no_queue : (k : Kind) → is_context k ≡ true → is_queue k ≡ false
+    no_queue Context e = refl
+    no_queue _ e = cc
+
+    each : (o : Option Row) → row_of rs c ≡ o → IsTurning o → count_undrained (changed (marked_row Quiet) rs c) ≡ count_undrained rs
+    each None e t = absurd t
+    each (Some r) e t = let n = no_queue r.kind t.0 in total-kept undrained (marked_row Quiet) rs c r e (rw n refl)
+
+-- the context of a turn that is over is quiet again
+closing : (v : ℕ) (o : Option Obj) (p : Pool) → (speaks (closing_step v o p) ≡ false) × (TurnedAt o p.rows → count_undrained (pool_in (closing_step v o p)).rows ≡ count_undrained p.rows)
+closing v None p = (refl, λ t. refl)
+closing v (Some c) p = by_test (is_doomed p c)
+    (λ d. rw d (refl, context-marked p.rows c))
+    (λ d. rw d (refl, context-marked p.rows c))
+
 pub turn_speaking : (f : TurnFrame) (p : Pool) → speaks (turn_step f p) ≡ turn_speaks f
-turn_speaking Taking p = (taking (first p.soon) p).0
-turn_speaking (Timed again now) p = (timed again now (first p.times) p).0
+turn_speaking Taking p = (taking (first (soon_here p)) p).0
+turn_speaking (Timed again now) p = (timed again now (first (times_here p)) p).0
 turn_speaking (Starting what x occasion) p = (starting what x occasion (handler_for p what x) p).0
 turn_speaking (Handled what x) p = (handled x (goes_after p what x) p).0
+turn_speaking (Closing v) p = (closing v p.turning p).0
 turn_speaking _ p = refl
 
 -- what a turn takes, and what there is for frees to come to then, was kept for it
-pub turn-room : (f : TurnFrame) (p : Pool) → turn_takes f + 2 * count_undrained (pool_in (turn_step f p)).rows ≤ turn_places f + 2 * count_undrained p.rows
-turn-room Taking p = let e = (taking (first p.soon) p).1 in rw e (omega arith)
-turn-room (Timed again now) p = let e = (timed again now (first p.times) p).1 in rw e (omega arith)
-turn-room (Starting what x occasion) p = let n = (starting what x occasion (handler_for p what x) p).1 in omega (arith, n)
-turn-room (Handled what x) p = let n = (handled x (goes_after p what x) p).1 in omega (arith, n)
-turn-room _ p = omega arith
+pub turn-room : (f : TurnFrame) (p : Pool) → MayTurn f p → turn_takes f + 2 * count_undrained (pool_in (turn_step f p)).rows ≤ turn_places f + 2 * count_undrained p.rows
+turn-room Taking p may = let e = (taking (first (soon_here p)) p).1 in rw e (omega arith)
+turn-room (Timed again now) p may = let e = (timed again now (first (times_here p)) p).1 in rw e (omega arith)
+turn-room (Starting what x occasion) p may = let n = (starting what x occasion (handler_for p what x) p).1 in omega (arith, n)
+turn-room (Handled what x) p may = let n = (handled x (goes_after p what x) p).1 in omega (arith, n)
+turn-room (Closing v) p may = let n = (closing v p.turning p).1 may in omega (arith, n)
+turn-room _ p may = omega arith
 
 -- ---- the work of a request, or of a queue
 
@@ -141,7 +170,11 @@ callback x errand (Some handler) p = (refl, refl)
 
 notifying : (x : Obj) (errand : Errand) (o : Option Note) (p : Pool) → Keeps (notifying_step x errand o p) false p
 notifying x errand None p = (refl, refl)
-notifying x errand (Some n) p = by_test n.deferred (λ t. rw t (refl, refl)) (λ t. rw t (callback x errand n.callback p))
+notifying x errand (Some n) p = deferred n.deferred
+  where
+    deferred : (o : Option Obj) → Keeps (deferred_step x errand o n.callback p) false p
+    deferred None = callback x errand n.callback p
+    deferred (Some c) = by_test (is_usable p.rows c) (λ t. rw t (refl, refl)) (λ t. rw t (refl, refl))
 
 receiving : (x : Obj) (b : Bool) (p : Pool) → Keeps (receiving_step x b p) b p
 receiving x true p = (refl, refl)

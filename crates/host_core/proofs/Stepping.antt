@@ -74,7 +74,7 @@ module _ (f : Frame) (step : Step) (old : Parts) (o : Objects) (whole : IsConsis
 -- ---- whoever waits for a turn, or for the work of a request
 
 pub turn_answers : (step : Step) (t : TurnFrame) (fs : List FreeFrame) (ws : List Waiting) (p : Pool) (o : Objects) → IsTurnStep step → Fits fs ws → IsConsistent (other_view (frame.Turn t) fs ws p) → StepAnswers step ws o
-turn_answers (Ends (Turned v)) t fs ws p o s fit h = turned-answers t v fs ws o fit h.sound.waiting h.seated
+turn_answers (Ends (Turned v)) t fs ws p o s fit h = turned-answers t v fs ws o fit h.sound.waiting h.seated h.calm.1
 turn_answers (Ends (Freed a)) t fs ws p o s fit h = absurd s
 turn_answers (Ends (Returned v)) t fs ws p o s fit h = absurd s
 turn_answers (Ends (Heard r)) t fs ws p o s fit h = absurd s
@@ -135,7 +135,7 @@ module _ (now : Active) (t : Turn) (old : Parts) (at_work : now ≡ active.Turni
       let counts = ap count_unreceived requests in
       let pool : o.pool ≡ pool_in (turn_step f old.objects.pool) = sym (pool-left step o.pool) ∙ ap pool_in same in
       let same-rows = ap (λ (z : Pool). count_undrained z.rows) pool in
-      let kept = turn-room f old.objects.pool in
+      let kept = turn-room f old.objects.pool turn_may in
       subst (λ (z : Active). LeadsOn (host_view z old) step (record { waiting = old.waiting; objects = o })) (sym is)
       (step_leads (frame.Turn f) step old o turn-between.whole same works turn-quiet turn-between.fit (turn_takes f) goes (turn_answers step f old.objects.works (reverse old.waiting.items) old.objects.pool o ends turn-between.fit turn-between.whole) (omega (arith, room, few, counts, same-rows, kept)))
 

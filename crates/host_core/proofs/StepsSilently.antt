@@ -1,6 +1,6 @@
 -- One step of a host after another, and what stands after it.
 use Rattle.std.proofs.Common.{◌≡◌, ℕ, ◌+◌, ◌≤◌, ◌<◌, List, [], ◌∷◌, length, Option, Some, None, true, false, refl, sym, ◌∙◌, ap, subst, arith}
-use Rattle.step_machine.specs.Machine.{Move, Outcome, State, silent, given, leads, walk, is_stray, items as told_by}
+use Rattle.step_machine.specs.Machine.{Move, State, silent, given, leads, walk, is_stray, items as told_by}
 use Rattle.step_machine.specs.Machine.{Move as Do}
 use Rattle.step_machine.specs.Open.{LastIs}
 use Rattle.step_machine.proofs.Ends.{rest-step, silent-leads}

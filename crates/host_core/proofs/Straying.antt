@@ -10,7 +10,7 @@ use Rattle.tree_specs.specs.declared.frame.CallFrame.TheVariants.{Asking}
 use Rattle.tree_specs.specs.declared.frame.FreeFrame.{FreeFrame}
 use Rattle.tree_specs.specs.declared.frame.TurnFrame.{TurnFrame}
 use Rattle.tree_specs.specs.declared.frame.TurnFrame.TheVariants.{Timing}
-use Rattle.tree_specs.specs.declared.frame.OutsideFrame.TheVariants.{Opening, Reaching}
+use Rattle.tree_specs.specs.declared.frame.OutsideFrame.TheVariants.{Opening}
 use Rattle.tree_specs.specs.Rules.Items.Item.{Asked}
 use Rattle.tree_specs.specs.Tree.Pool.{Pool}
 use Rattle.tree_specs.specs.Words.Ranges.{is_routine}
@@ -21,7 +21,7 @@ use Rattle.tree_specs.specs.Machine.Table.{step, taken}
 use Rattle.tree_specs.specs.Machine.View.{View, strays_of}
 use Rattle.tree_stories.specs.Sights.{sights_of}
 use Rattle.tree_stories.proofs.Seeing.{open-seen, stray-seen}
-use Rattle.tree_specs.specs.Invariants.Consistent.{IsStacked, IsConsistent}
+use Rattle.tree_specs.specs.Invariants.Consistent.{IsStacked}
 use Rattle.host_core.specs.declared.active.Active.{Active}
 use Rattle.host_core.specs.declared.active.Active.TheVariants as active
 use Rattle.host_core.specs.declared.caller.Stage.{Stage}

@@ -20,7 +20,8 @@ use Rattle.host_core.specs.Moves.{call_of, reported}
 use Rattle.host_core.specs.declared.owned_reply.OwnedReply.{OwnedReply}
 use Rattle.host_core.specs.Callers.{remembers}
 use Rattle.host_core.specs.Stacks.{active_frame}
-use Rattle.host_core.specs.Places.{owed}
+use Rattle.host_core.specs.Places.{owed, taken_places}
+use Rattle.host_core.proofs.KeptPlace.{kept_most}
 use Rattle.host_core.specs.Promises.{TakesAnswer, taken_in}
 use Rattle.host_core.specs.Reaches.{is_bytes}
 use Rattle.host_core.specs.Hosts.{host_view, given_view, speaking_view, asked_now, caller_asked, IsReport, IsBetweenSteps, MayTake, TellsSameStory}
@@ -63,11 +64,12 @@ module _ (now : Active) (parts : Parts) (i : Input) (b : IsBetweenSteps now part
     pub given_same : given_view now i new ≡ given_view now i parts
     given_same = rw (items, objects) refl
 
-    pub may_take : is_bytes i ≡ false → reported (call_of i) ≡ None → AreInOrder parts.objects.pool.requests → length new.waiting.items + 2 * (count_unreceived parts.objects.pool.requests + length parts.objects.pool.queues.running) + 4 ≤ vec_capacity new.waiting → MayTake now i new
+    pub may_take : is_bytes i ≡ false → reported (call_of i) ≡ None → AreInOrder parts.objects.pool.requests → length new.waiting.items + 2 * (count_unreceived parts.objects.pool.requests + length parts.objects.pool.queues.running) + 5 ≤ vec_capacity new.waiting → MayTake now i new
     may_take no_bytes no_report order places =
         let h = given.1.whole in
         let few = undrained-most parts.objects.pool.rows parts.objects.pool.queues.running h.sound.forest.distinct (λ x q. h.queued.pool.queues x ∙ q) in
-        let room : length new.waiting.items + 4 + 2 * owed parts.objects.pool ≤ vec_capacity new.waiting = omega (arith, places, few) in
+        let kept = kept_most new.waiting.items in
+        let room : taken_places new.waiting.items + 4 + 2 * owed parts.objects.pool ≤ vec_capacity new.waiting = omega (arith, places, few, kept) in
         record {
           fits = fits;
           no_bytes = no_bytes;

@@ -106,7 +106,7 @@ bytes-asked _ parts _ bytes fits b h = cc
 -- a call waits for them
 pub calls-outside : (q : Ask) (parts : Parts) → IsBetweenSteps (active.Reaching q) parts → CallsOutside parts.waiting.items
 calls-outside q parts b =
-    let a = turned-call (frame.Outside (Reaching q)) (Turned 0) parts.objects (λ z. z) (λ z. z) (λ z. z) (λ z. z) (λ q. tt) parts.objects.works (reverse parts.waiting.items) b.fit b.whole.sound.waiting b.whole.seated in
+    let a = turned-call (frame.Outside (Reaching q)) (Turned 0) parts.objects (λ z. z) (λ z. z) (λ z. z) (λ z. z) (λ q. tt) parts.objects.works (reverse parts.waiting.items) b.fit b.whole.sound.waiting b.whole.seated b.whole.calm.1 in
     each a.first a.others a.are a.answers
   where
     each : (first : Waiting) (others : List Waiting) → reverse parts.waiting.items ≡ first ∷ others → AnswersTo (Turned 0) first parts.objects → CallsOutside parts.waiting.items

@@ -13,9 +13,11 @@ use Rattle.tree_specs.specs.declared.request.State.{State}
 use Rattle.tree_specs.specs.declared.request.State.TheVariants.{InProgress, Received}
 use Rattle.tree_specs.specs.Calls.Refusals.{in_progress}
 use Rattle.tree_specs.specs.Events.Requests.{Notes, note_of, new_note, is_in_progress, is_received, is_unreceived, renoted, cleaned, not_deferring, in_state, state_number}
-use Rattle.tree_specs.specs.Tree.Pool.{Pool, new_row}
+use Rattle.tree_specs.specs.Tree.Pool.{Pool, is_usable, new_row}
 use Rattle.tree_specs.specs.Calls.Plans.{Change, changed_by}
-use Rattle.tree_specs.specs.Calls.Plans.Change.{Edit, Add, Place, AddRequest, Renotes, Then}
+use Rattle.tree_specs.specs.Calls.Plans.Change.{Edit, Add, Place, AddRequest, Renotes, Enter, Then}
+use Rattle.tree_specs.specs.declared.row.Mark.TheVariants.{Busy}
+use Rattle.tree_specs.specs.Words.Objects.{same, first_context}
 use Rattle.tree_specs.proofs.Tree.Numbered.{by_test}
 use Rattle.tree_specs.proofs.Calls.Changes.{MayDo, added}
 use Rattle.requests.specs.Register.{AreInOrder}
@@ -24,7 +26,7 @@ use Rattle.requests.specs.declared.requests.Notify.TheVariants.{Post}
 use Rattle.object_pool.specs.Objects.{Objects}
 use Rattle.object_pool.specs.Requests.{cleaning, notifying, count_unreceived}
 use Rattle.host_core.specs.Places.{undrained, owed}
-use Rattle.host_core.proofs.Draining.{one-most as one-queue, changed-fewer, placed-fewer}
+use Rattle.host_core.proofs.Draining.{one-most as one-queue, changed-fewer, marked-fewer, placed-fewer}
 
 -- ---- one note in its place
 
@@ -146,7 +148,9 @@ cleaning_many x None p o = refl
 cleaning_many x (Some handler) p o = renoted-many cleaned p.requests x o (λ n. refl)
 
 pub notifying_many : (x : Obj) (notify : Notify) (o : Objects) → AreInOrder o.pool.requests → count_unreceived (notifying x notify o).pool.requests ≡ count_unreceived o.pool.requests
-notifying_many x Post o k = renoted-many not_deferring o.pool.requests x k (λ n. refl)
+notifying_many x (Post c) o k =
+    let many = renoted-many not_deferring o.pool.requests x k (λ n. refl) in
+    by_test (is_usable o.pool.rows c) (λ t. rw t many) (λ t. rw t many)
 notifying_many x _ o k = refl
 
 -- ---- a change by a call
@@ -173,4 +177,7 @@ change-counted (Edit x g) p o may =
     record { order = o; few = omega (arith, m) }
 change-counted (Place owner x) p o may = let m = placed-fewer p owner x in record { order = o; few = omega (arith, m) }
 change-counted (Add kind owner size name) p o may = let m = one-queue (new_row (record { 0 = p.next }) kind owner size name) in record { order = o; few = omega (arith, m) }
+change-counted (Enter c) p o may = by_test (same c first_context)
+    (λ t. rw t (record { order = o; few = omega arith }))
+    (λ t. rw t (let n = marked-fewer Busy p.rows c refl in record { order = o; few = omega (arith, n) }))
 change-counted _ p o may = record { order = o; few = omega arith }

@@ -1,13 +1,13 @@
 -- What a step leads to in a host, and what it may want.
 use Rattle.std.specs.Prelude.{◌≡◌, ℕ, ◌+◌, ◌≤◌, Bool, true, false, List, [], ◌∷◌, ◌++◌, reverse, slice_get}
 use Rattle.step_machine.specs.Machine.{Move as Do}
-use Rattle.tree_specs.specs.declared.frame.TurnFrame.TheVariants.{Handling, Clearing, Serving}
+use Rattle.tree_specs.specs.declared.frame.TurnFrame.TheVariants.{Handling, Clearing, Serving, Parting}
 use Rattle.tree_specs.specs.declared.frame.CallFrame.TheVariants.{Telling}
 use Rattle.tree_specs.specs.declared.frame.Frame.TheVariants as frame
 use Rattle.tree_specs.specs.declared.frame.FreeFrame.{FreeFrame}
 use Rattle.tree_specs.specs.declared.free_step.FreeStep.{FreeStep}
 use Rattle.tree_specs.specs.declared.free_step.FreeStep.TheVariants.{Ask, Prepare, Drain, Done}
-use Rattle.tree_specs.specs.Calls.Refusals.{refusals}
+use Rattle.tree_specs.specs.Calls.Refusals.{refusals_at}
 use Rattle.tree_specs.specs.Invariants.Consistent.{IsConsistent}
 use Rattle.tree_specs.specs.Machine.Table.{freeing_resume, call_step}
 use Rattle.tree_specs.specs.declared.question.Ask.{Ask as Question}
@@ -37,7 +37,7 @@ use Rattle.host_core.specs.Callers.{remembers}
 use Rattle.host_core.specs.Moves.{move_of, ReadyFor}
 use Rattle.host_core.specs.Reaches.{remembered}
 use Rattle.host_core.specs.Hosts.{host_view, called_view, below_in, moved, speaking_view, PartsReady, HasRoom, IsBetweenSteps, StepsSilently}
-use Rattle.host_core.specs.Places.{places, HasPlacesFor}
+use Rattle.host_core.specs.Places.{places, own_place, HasPlacesFor}
 use Rattle.host_core.specs.Stacks.{active_frame, answer_of, Fits}
 use Rattle.host_core.specs.Steps.{step_of, IsBusy}
 use Rattle.host_core.specs.Turns.{turn_asks}
@@ -55,7 +55,8 @@ stepped_view step parts = (moved (step_of step parts.objects.pool) (below_in par
 -- what is over answers to what waits for it
 abbrev pub AnswersTo : Answer → Waiting → Objects → Type 0
 AnswersTo (Freed a) (Awaiting q x) o = Unit {0}
-AnswersTo (Freed a) (Turn (Clearing x)) o = Unit {0}
+AnswersTo (Freed a) (Turn (Clearing x)) o = MayBeginFree o
+AnswersTo (Freed a) (Turn (Parting c v)) o = MayBeginFree o
 AnswersTo (Freed a) (WorkOf (Releasing child)) o = Unit {0}
 AnswersTo (Freed a) (WorkOf (Dropping queue entry)) o = IsPreparing (slice_get o.works 0)
 AnswersTo (Returned v) Freeing o = IsAsked (slice_get o.works 0) × IsAwaiting (frees_in o)
@@ -64,7 +65,7 @@ AnswersTo (Returned v) (WorkOf (Called what x handler errand)) o = o.ready ≡ t
 AnswersTo (Turned v) (Turning q) o = Unit {0}
 AnswersTo (Heard r) (Turning q) o = Unit {0}
 AnswersTo (Heard r) (Requesting q) o = Unit {0}
-AnswersTo (Heard r) (Turn (Serving x)) o = Unit {0}
+AnswersTo (Heard r) (Turn (Serving x)) o = MayBeginFree o
 AnswersTo (Heard r) Freeing o = IsPreparing (slice_get o.works 0) × IsAwaiting (frees_in o)
 AnswersTo a w o = ⊥
 
@@ -115,9 +116,9 @@ StepReady (Ends a) o = Unit {0}
 abbrev pub step_places : Step → ℕ
 step_places (Goes next) = places next
 step_places (Calls first second) = 1 + places first
-step_places (Frees x second) = 3
-step_places (Unlinks owner x second) = 3
-step_places (Empties x second) = 3
+step_places (Frees x second) = own_place second + 2
+step_places (Unlinks owner x second) = own_place second + 2
+step_places (Empties x second) = own_place second + 2
 step_places (Ends a) = answer_places a
 
 -- whoever waits for a work that is over
@@ -208,7 +209,7 @@ pub record BeginsWith (q : Question) (c : Call) (o : Objects) (motion : Motion) 
   pub whole : IsConsistent (called_view q (input.Call c) (with_objects o parts))
   pub room : HasRoom (with_objects o parts)
   pub fit : Fits o.works (reverse parts.waiting.items)
-  pub moved : move_of q motion parts.objects.pool ≡ call_step (refusals o.pool c) q c o.pool
+  pub moved : move_of q motion parts.objects.pool ≡ call_step (refusals_at q o.pool c) q c o.pool
   pub works : parts.objects.works ≡ o.works
   pub goes : ReadyFor motion parts.objects.ready
 

@@ -9,7 +9,7 @@ use Rattle.tree_specs.specs.declared.frame.CallFrame.{CallFrame}
 use Rattle.tree_specs.specs.declared.frame.CallFrame.TheVariants.{Asking, Doing, Returning}
 use Rattle.tree_specs.specs.declared.frame.FreeFrame.TheVariants.{Ending}
 use Rattle.tree_specs.specs.declared.frame.TurnFrame.{TurnFrame}
-use Rattle.tree_specs.specs.declared.frame.TurnFrame.TheVariants.{Taking, Timed, Handled, Clearing, Serving}
+use Rattle.tree_specs.specs.declared.frame.TurnFrame.TheVariants.{Taking, Timed, Starting, Handled, Clearing, Serving, Parting, Closing}
 use Rattle.tree_specs.specs.declared.frame.Answer.{Answer}
 use Rattle.tree_specs.specs.declared.free_step.FreeReply.TheVariants.{Ok}
 use Rattle.tree_specs.specs.declared.question.Act.TheVariants as act
@@ -30,9 +30,9 @@ use Rattle.tree_specs.specs.Machine.View.{View, rest_of, strays_of}
 use Rattle.tree_specs.specs.declared.free_step.FreeStep.{FreeStep}
 use Rattle.destructors.specs.Frees.{speaking, Steps}
 use Rattle.destructors.specs.Frees.{next_of as moves_next}
-use Rattle.object_pool.specs.Upcoming.{MayForget}
+use Rattle.object_pool.specs.Upcoming.{MayForget, upcoming_in}
 use Rattle.destructors.specs.Works.{IsAtWork, GoesOn}
-use Rattle.object_pool.specs.Objects.{Objects, frees_in, LeavesRest}
+use Rattle.object_pool.specs.Objects.{Objects, frees_in, LeavesRest, MayBeginFree}
 use Rattle.object_pool.specs.Requests.{count_unreceived}
 use Rattle.requests.specs.Register.{AreInOrder}
 use Rattle.host_core.specs.declared.parts.Parts.{Parts}
@@ -46,7 +46,7 @@ use Rattle.tree_specs.specs.Texts.Schedule.{misfit}
 use Rattle.tree_stories.specs.Sights.{sights_of}
 use Rattle.host_core.specs.Moves.{call_of, reported}
 use Rattle.host_core.specs.Reaches.{IsOutside, is_bytes, outside_given}
-use Rattle.host_core.specs.Places.{HasPlaces, HasPlacesFor}
+use Rattle.host_core.specs.Places.{taken_places, HasPlaces, HasPlacesFor}
 use Rattle.host_core.specs.Requests.{work_tells, work_told, pool_told, WorkReady}
 use Rattle.host_core.specs.Stacks.{standing, active_frame, other_view, seen, Fits, AllFit}
 use Rattle.host_core.specs.Turns.{turn_asks, turn_given, turn_tells, frame_fired}
@@ -67,16 +67,19 @@ below_in parts = standing parts.objects.works (reverse parts.waiting.items)
 pub record FreeReady (objects : Objects) : Type 0 where
   pub at_work : IsAtWork (frees_in objects)
   pub settled : speaking (frees_in objects) ≡ true
-  -- what is no more with that step is no queue with entries
-  pub emptied : MayForget (moves_next (frees_in objects)).0 objects.pool.queues
+  -- what is no more with that step is no queue with entries, and no context in which something comes
+  pub forgettable : MayForget (moves_next (frees_in objects)).0 (upcoming_in objects.pool)
 
 -- a turn has its question at hand, and the memory for what follows, until it waits or is over
 abbrev pub FrameReady : TurnFrame → Objects → Type 0
 FrameReady Taking o = o.ready ≡ true
 FrameReady (Timed again now) o = o.ready ≡ true
+FrameReady (Starting what x occasion) o = o.ready ≡ true
 FrameReady (Handled what x) o = o.ready ≡ true
+FrameReady (Closing v) o = MayBeginFree o
 FrameReady (Clearing x) o = ⊥
 FrameReady (Serving x) o = ⊥
+FrameReady (Parting c v) o = ⊥
 FrameReady f o = Unit {0}
 
 pub record TurnReady (t : Turn) (objects : Objects) : Type 0 where
@@ -94,7 +97,7 @@ pub record IsBetweenSteps (now : Active) (parts : Parts) : Type 0 where
   pub whole : IsConsistent (host_view now parts)
   pub fit : AllFit now parts.objects.works (reverse parts.waiting.items)
   pub ready : PartsReady now parts.objects
-  pub places : HasPlaces now (length parts.waiting.items) parts.objects (vec_capacity parts.waiting)
+  pub places : HasPlaces now (taken_places parts.waiting.items) parts.objects (vec_capacity parts.waiting)
 
 -- ---- a step
 

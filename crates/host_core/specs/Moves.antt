@@ -14,7 +14,9 @@ use Rattle.tree_specs.specs.declared.frame.CallFrame.{CallFrame}
 use Rattle.tree_specs.specs.declared.frame.CallFrame.TheVariants.{Awaiting, Turning, Requesting, Telling, Announcing}
 use Rattle.tree_specs.specs.declared.frame.OutsideFrame.TheVariants.{Reaching}
 use Rattle.tree_specs.specs.declared.notice.Notice.{Notice}
-use Rattle.tree_specs.specs.Machine.Table.{turning_step, work_of}
+use Rattle.tree_specs.specs.declared.frame.TurnFrame.TheVariants.{Taking}
+use Rattle.tree_specs.specs.declared.question.Ask.TheVariants.{Quiet}
+use Rattle.tree_specs.specs.Machine.Table.{work_of}
 use Rattle.tree_specs.specs.declared.frame.FreeFrame.TheVariants.{Unlinking, Beginning, Looping}
 use Rattle.tree_specs.specs.declared.frame.Purpose.TheVariants.{Emptying}
 use Rattle.tree_specs.specs.declared.frame.Answer.{Answer}
@@ -55,7 +57,7 @@ move_of q (Frees x) p = Do.Call (frame.Free (Beginning x)) (frame.Call (Awaiting
 move_of q (Unlinks o x) p = Do.Call (frame.Free (Unlinking o x)) (frame.Call (Awaiting q x)) p
 move_of q (Empties x) p = Do.Call (frame.Free (Looping x Emptying)) (frame.Call (Awaiting q x)) p
 move_of q (Asks outside) p = Do.Call (frame.Outside (Reaching outside)) (frame.Call (Turning q)) p
-move_of q Turns p = turning_step q p
+move_of q Turns p = Do.Call (frame.Turn Taking) (frame.Call (Turning Quiet)) p
 move_of q (Works errand x) p = Do.Call (work_of errand x) (frame.Call (Requesting q)) p
 
 -- what a call begins has the memory that the call was given, and what it asks is asked of the outside
@@ -83,7 +85,7 @@ is_work (call.Accept fd) = true
 is_work (call.Read fd len) = true
 is_work (call.Write fd bytes) = true
 is_work call.Now = true
-is_work call.Turn = true
+is_work (call.Turn c) = true
 is_work (call.Cancel x) = true
 is_work (call.Done x) = true
 is_work (call.Oom x) = true
@@ -95,12 +97,13 @@ is_work c = false
 abbrev pub is_making : Call → Bool
 is_making (call.New o size name) = true
 is_making (call.Reference o x) = true
+is_making (call.Context o) = true
 is_making (call.Immediate o) = true
-is_making (call.Timer o time routine user) = true
-is_making (call.Fd o fd flags routine user) = true
+is_making (call.Timer o time routine user c) = true
+is_making (call.Fd o fd flags routine user c) = true
 is_making (call.Req o size name) = true
 is_making (call.Queue o name) = true
-is_making (call.Enqueue q x routine user) = true
+is_making (call.Enqueue q x routine user c) = true
 is_making c = false
 
 -- the call that an input is to do

@@ -1,11 +1,11 @@
 -- The places among the works that wait which what is at work may take before the next question.
-use Rattle.std.specs.Prelude.{ℕ, ◌+◌, ◌*◌, ◌≤◌, ◌&&◌, List, [], ◌∷◌, length, vec_capacity, if◌then◌else◌}
+use Rattle.std.specs.Prelude.{ℕ, Bool, true, false, ◌+◌, ◌*◌, ◌≤◌, ◌&&◌, List, [], ◌∷◌, length, vec_capacity, if◌then◌else◌}
 use Rattle.tree_specs.specs.declared.frame.Errand.{Errand}
 use Rattle.tree_specs.specs.declared.frame.Errand.TheVariants.{Receive}
 use Rattle.tree_specs.specs.declared.frame.FreeFrame.{FreeFrame}
 use Rattle.tree_specs.specs.declared.frame.FreeFrame.TheVariants.{Hooked, Judged, Draining, Prepared, Leaving}
 use Rattle.tree_specs.specs.declared.frame.TurnFrame.{TurnFrame}
-use Rattle.tree_specs.specs.declared.frame.TurnFrame.TheVariants.{Taking, Timed, Handled, Closing}
+use Rattle.tree_specs.specs.declared.frame.TurnFrame.TheVariants.{Handled, Closing, Parting}
 use Rattle.tree_specs.specs.declared.row.Row.{Row}
 use Rattle.tree_specs.specs.declared.row.Mark.TheVariants.{Quiet}
 use Rattle.tree_specs.specs.Calls.Refusals.{is_queue}
@@ -17,6 +17,8 @@ use Rattle.object_pool.specs.Requests.{count_unreceived}
 use Rattle.host_core.specs.declared.active.Active.{Active}
 use Rattle.host_core.specs.declared.active.Active.TheVariants as active
 use Rattle.host_core.specs.declared.parts.Parts.{Parts}
+use Rattle.host_core.specs.declared.waiting.Waiting.{Waiting}
+use Rattle.host_core.specs.declared.waiting.Waiting.TheVariants.{Turn}
 use Rattle.host_core.specs.declared.work.Work.{Work}
 use Rattle.host_core.specs.declared.work.Work.TheVariants as work
 
@@ -63,13 +65,10 @@ work_places (work.Cleaned x errand) = errand_places errand
 work_places (work.Vacating queue) = 3
 work_places w = 1
 
--- what a turn takes with its next step
+-- what a turn takes with its next step; at its end it may wait in the place that is kept for it
 abbrev pub turn_takes : TurnFrame → ℕ
-turn_takes Taking = 2
-turn_takes (Timed again now) = 2
-turn_takes (Handled what x) = 3
-turn_takes (Closing v) = 0
-turn_takes f = 1
+turn_takes (Closing v) = 2
+turn_takes f = 3
 
 -- and what is kept for it: an object whose handler is over is quiet again, and might be one more that a free may come to
 abbrev pub turn_places : TurnFrame → ℕ
@@ -82,11 +81,30 @@ places (active.Turning t) = turn_places t.frame
 places (active.Requesting w) = work_places w
 places now = 0
 
+-- ---- what waits
+
+-- a turn at its end, whose context is freed
+abbrev pub is_parting : Waiting → Bool
+is_parting (Turn (Parting x v)) = true
+is_parting w = false
+
+-- one place is kept for such a turn, from before it began: only one turn is under way
+abbrev pub kept_place : List Waiting → ℕ
+kept_place [] = 1
+kept_place (w ∷ ws) = if is_parting w then 0 else kept_place ws
+
+abbrev pub taken_places : List Waiting → ℕ
+taken_places ws = length ws + kept_place ws
+
+-- any other work that waits takes a place of its own
+abbrev pub own_place : Waiting → ℕ
+own_place w = if is_parting w then 0 else 1
+
 -- ---- what there is
 
 -- there are so many places, and two for each request and each queue that a free may still come to
 abbrev pub HasPlacesFor : ℕ → Parts → Type 0
-HasPlacesFor n parts = length parts.waiting.items + n + 2 * owed parts.objects.pool ≤ vec_capacity parts.waiting
+HasPlacesFor n parts = taken_places parts.waiting.items + n + 2 * owed parts.objects.pool ≤ vec_capacity parts.waiting
 
 -- there are those that what is at work may take
 abbrev pub HasPlaces : Active → ℕ → Objects → ℕ → Type 0

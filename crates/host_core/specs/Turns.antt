@@ -13,7 +13,8 @@ use Rattle.tree_specs.specs.declared.question.Ask.TheVariants.{Clock, Wait}
 use Rattle.tree_specs.specs.declared.question.Input.{Input}
 use Rattle.tree_specs.specs.declared.question.Input.TheVariants as input
 use Rattle.tree_specs.specs.declared.request.State.TheVariants.{TimedOut}
-use Rattle.tree_specs.specs.Tree.Pool.{Pool}
+use Rattle.tree_specs.specs.Invariants.Sound.{TurnedAt}
+use Rattle.tree_specs.specs.Tree.Pool.{Pool, ring_here}
 use Rattle.tree_specs.specs.Events.Coming.{at_time, with_flags, looks_again}
 use Rattle.tree_specs.specs.Events.Requests.{is_noted}
 use Rattle.tree_specs.specs.Events.Rotation.{Ready, first_ready}
@@ -61,7 +62,7 @@ MayTurn (Timed again now) p = Unit {0}
 MayTurn (Starting what x occasion) p = Unit {0}
 MayTurn (Handling what x handler occasion) p = Unit {0}
 MayTurn (Handled what x) p = IsLiveRow p x × (is_asked p x ≡ false)
-MayTurn (Closing v) p = Unit {0}
+MayTurn (Closing v) p = TurnedAt p.turning p.rows
 MayTurn f p = ⊥
 
 -- after a wait the clock is asked again, or an event comes that waits for what its descriptor is ready for
@@ -76,7 +77,7 @@ frame_looked false ready = frame_ready ready
 -- what is still to do after the answer to what it asks
 abbrev pub turn_given : TurnFrame → Input → Pool → TurnFrame
 turn_given (Timing again) (input.Clock now) p = Timed again now
-turn_given (Polling limit) (input.Ready wants) p = frame_looked (looks_again p wants) (first_ready p.ring wants)
+turn_given (Polling limit) (input.Ready wants) p = frame_looked (looks_again p wants) (first_ready (ring_here p) wants)
 turn_given f i p = f
 
 -- what is still to do once it was told which descriptors are ready, and this was picked

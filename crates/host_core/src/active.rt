@@ -74,6 +74,18 @@ impl Active {
         }
     }
 
+    /// The question of the caller that was asked.
+    #[inline(always)]
+    pub fn asked(&self) -> &Ask
+        requires { IsSome (caller_asked self.now) }
+        ensures { caller_asked self.now ≡ Some result.now }
+    {
+        match self {
+            Active::Caller(caller) => &caller.ask,
+            _ => unreachable!(),
+        }
+    }
+
     /// The question that is open. None where none is.
     pub fn question(&self) -> Option<&Ask>
         ensures { option_copied result ≡ asked_now self.now }

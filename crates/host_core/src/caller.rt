@@ -98,7 +98,11 @@ impl Caller {
         ensures { (h : ℕ) → HasHook (row_of objects.now.pool.rows x) h → frame_of result ≡ Asking (Routine (hook_moment x h)) }
     {
         let routine = objects.row(x).map_or(0, |row| row.hook);
-        let handler = Handler { routine, user: 0 };
+        let handler = Handler {
+            routine,
+            user: 0,
+            context: Obj::first_context(),
+        };
         let plainly = Occasion { now: 0, flags: 0 };
         Caller::routine(What::Hook, x, handler, plainly)
     }

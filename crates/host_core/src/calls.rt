@@ -1,6 +1,6 @@
 //! What each call does, once its tests are passed.
 ghost use Rattle.std.specs.Prelude.{◌≡◌, Bool, None, false, if◌then◌else◌, true};
-ghost use Rattle.tree_specs.specs.Calls.Refusals.{tests, refusals};
+ghost use Rattle.tree_specs.specs.Calls.Refusals.{tests, is_nested, refusals_at};
 ghost use Rattle.tree_specs.specs.Calls.Passed.{AllPassed};
 ghost use Rattle.tree_specs.specs.Calls.Plans.{plan, places as places_of, warns as worth_a_warning, replies, failure_reply, progress_reply, fails};
 ghost use Rattle.tree_specs.specs.declared.call.Call.TheVariants.{Free as FreeOf, Close as CloseOf};
@@ -12,7 +12,8 @@ ghost use Rattle.tree_specs.specs.Tree.Pool.{Pool as PoolData};
 ghost use Rattle.host_core.specs.Requests.{IsRelease, IsReleaseBy, QueuesAreKept};
 ghost use Rattle.host_core.specs.declared.short_reply.ShortReply.TheVariants.{Number as NumberReply};
 ghost use Rattle.tree_specs.specs.Rules.Answers.{freed_reply};
-ghost use Rattle.tree_specs.specs.Machine.Table.{call_step, plan_step};
+ghost use Rattle.tree_specs.specs.Machine.Table.{call_step, plan_step, turning_step};
+ghost use Rattle.tree_specs.specs.Tree.Pool.{is_usable};
 ghost use Rattle.tree_links.specs.Links.{MayPlace};
 ghost use Rattle.object_pool.specs.Objects.{RefsMayGo};
 ghost use Rattle.host_core.specs.Moves.{is_making, is_work, move_of, reply_of, report_of, ReadyFor};
@@ -152,9 +153,20 @@ pub fn release(child: Obj, pool: &ObjectPool) -> Option<Motion>
     }
 }
 
+/// A routine with its user number, which runs in a context.
+fn handler(routine: u32, user: u64, context: Obj) -> Handler
+    ensures { result ≡ record { routine = routine; user = user; context = context } }
+{
+    Handler {
+        routine,
+        user,
+        context,
+    }
+}
+
 /// Does a call that sets something which is kept of an object, or tells something.
 #[inline(always)]
-#[tactic(auto, using(crate::proofs::Allowed::may_go, crate::proofs::Allowed::may_go_itself))]
+#[tactic(auto, using(crate::proofs::Allowed::may_go, crate::proofs::Allowed::may_go_itself, crate::proofs::Allowed::may_use))]
 fn set_or_tell(call: Call, pool: &mut ObjectPool) -> Motion
     requires at_once { is_work call ≡ false }
     requires same_objects { is_making call ≡ false }
@@ -171,21 +183,26 @@ fn set_or_tell(call: Call, pool: &mut ObjectPool) -> Motion
         Call::Count { owner } => return number(pool.count(owner)),
         Call::Sum { owner } => return number(pool.sum(owner)),
         Call::Getflags { x } => return number(u64::from(pool.flags(x).unwrap_or(0))),
-        Call::Pending => return number(pool.pending()),
+        Call::Pending { context } => return number(pool.pending(context)),
         Call::Length { queue } => return number(pool.queue_length(queue)),
         Call::Running { queue } => return running(queue, pool),
         Call::Iserror { x } => return failure(pool.note(x)),
         Call::Progress { x } => return progress(pool.note(x)),
         Call::Callback { x, routine, user } => pool.set_callback(x, routine, user),
-        Call::Defer { x } => pool.defer(x),
+        Call::Defer { x, context } => pool.defer(x, context),
         Call::Cleanup { x, routine } => pool.set_cleanup(x, routine),
         Call::Setcancel { x, routine } => pool.set_cancel(x, routine),
-        Call::Post { x } => pool.post(x),
+        Call::Post { x, context } => pool.post(x, context),
         Call::Start { queue } => pool.start_queue(queue),
         Call::Stop { queue } => pool.stop_queue(queue),
-        Call::Endtime { x, time } => pool.set_end_time(x, time),
+        Call::Endtime { x, time, context } => pool.set_end_time(x, time, context),
         Call::Schedule { x, routine: 0, .. } | Call::Unschedule { x } => pool.unschedule(x),
-        Call::Schedule { x, routine, user } => pool.schedule(x, Handler { routine, user }),
+        Call::Schedule {
+            x,
+            routine,
+            user,
+            context,
+        } => pool.schedule(x, handler(routine, user, context)),
         Call::Flags { x, flags } => pool.set_flags(x, flags),
         Call::Autoclose { x } => pool.set_closing(x),
         Call::Reparent { from, to, x } => pool.reparent(from, to, x),
@@ -201,7 +218,7 @@ fn set_or_tell(call: Call, pool: &mut ObjectPool) -> Motion
 
 /// Does a call that is over at once. One that makes an object replies its number.
 #[inline(always)]
-#[tactic(auto, using(crate::proofs::Allowed::may_go, crate::proofs::Allowed::may_go_itself))]
+#[tactic(auto, using(crate::proofs::Allowed::may_go, crate::proofs::Allowed::may_go_itself, crate::proofs::Allowed::may_use))]
 fn do_at_once(call: Call, pool: &mut ObjectPool) -> Motion
     requires at_once { is_work call ≡ false }
     requires ready { pool.old.ready ≡ true }
@@ -215,6 +232,7 @@ fn do_at_once(call: Call, pool: &mut ObjectPool) -> Motion
     let made = match call {
         Call::New { owner, size, name } => pool.add(Kind::Plain, name, size, owner),
         Call::Reference { owner, x } => pool.refer(x, owner),
+        Call::Context { owner } => pool.add_context(owner),
         Call::Immediate { owner } => {
             pool.add(Kind::Immediate, Name::fixed(b"immediate"), 0, owner)
         }
@@ -223,14 +241,16 @@ fn do_at_once(call: Call, pool: &mut ObjectPool) -> Motion
             time,
             routine,
             user,
-        } => pool.add_timer(owner, time, Handler { routine, user }),
+            context,
+        } => pool.add_timer(owner, time, handler(routine, user, context)),
         Call::Fd {
             owner,
             fd,
             flags,
             routine,
             user,
-        } => pool.add_descriptor(owner, fd, flags, Handler { routine, user }),
+            context,
+        } => pool.add_descriptor(owner, fd, flags, handler(routine, user, context)),
         Call::Req { owner, size, name } => pool.add_request(owner, size, name),
         Call::Queue { owner, name } => pool.add_queue(owner, name),
         Call::Enqueue {
@@ -238,15 +258,33 @@ fn do_at_once(call: Call, pool: &mut ObjectPool) -> Motion
             x,
             routine,
             user,
-        } => pool.add_entry(queue, x, Handler { routine, user }),
+            context,
+        } => pool.add_entry(queue, x, handler(routine, user, context)),
         other => return set_or_tell(other, pool),
     };
     number(made.0)
 }
 
+/// Begins a turn of a context for the host's own caller. Nobody else is given one.
+fn begin_turn(ask: &Ask, context: Obj, pool: &mut ObjectPool) -> Motion
+    requires ready { pool.old.ready ≡ true }
+    requires allowed { is_usable pool.old.pool.rows context ≡ true }
+    ensures goes { ReadyFor result pool.new.ready }
+    ensures works { pool.new.works ≡ pool.old.works }
+    ensures moved { move_of ask.now result pool.new.pool ≡ turning_step ask.now context pool.old.pool }
+{
+    match ask {
+        Ask::Quiet => {
+            pool.enter(context);
+            Motion::Turns
+        }
+        _ => Motion::Replies(ShortReply::No(Refusal::Nested)),
+    }
+}
+
 /// Does a call that isn't refused and whose reply takes no memory: any call but a report.
-#[tactic(auto, using(crate::proofs::Allowed::may_go, crate::proofs::Allowed::may_go_itself))]
-fn effect(call: Call, pool: &mut ObjectPool) -> Motion
+#[tactic(auto, using(crate::proofs::Allowed::may_go, crate::proofs::Allowed::may_go_itself, crate::proofs::Allowed::may_use))]
+fn effect(ask: &Ask, call: Call, pool: &mut ObjectPool) -> Motion
     requires queues { QueuesAreKept pool.old.pool }
     requires reference { RefsMayGo pool.old.pool.rows }
     requires ready { pool.old.ready ≡ true }
@@ -254,7 +292,7 @@ fn effect(call: Call, pool: &mut ObjectPool) -> Motion
     requires no_report { report_of call ≡ None }
     ensures goes { ReadyFor result pool.new.ready }
     ensures works { pool.new.works ≡ pool.old.works }
-    ensures moved { (q : AskData) → move_of q result pool.new.pool ≡ plan_step q (plan pool.old.pool call) pool.old.pool }
+    ensures moved { move_of ask.now result pool.new.pool ≡ plan_step ask.now (plan pool.old.pool call) pool.old.pool }
 {
     match call {
         Call::Free { x } => free(x, pool),
@@ -268,7 +306,7 @@ fn effect(call: Call, pool: &mut ObjectPool) -> Motion
         Call::Read { fd, len } => Motion::Asks(Ask::Read(fd, len)),
         Call::Write { fd, bytes } => Motion::Asks(Ask::Write(fd, bytes)),
         Call::Now => Motion::Asks(Ask::Clock),
-        Call::Turn => Motion::Turns,
+        Call::Turn { context } => begin_turn(ask, context, pool),
         Call::Cancel { x } => Motion::Works(Errand::Cancel, x),
         Call::Done { x } => finish(x, State::Done),
         Call::Oom { x } => finish(x, State::NoMemory),
@@ -278,20 +316,31 @@ fn effect(call: Call, pool: &mut ObjectPool) -> Motion
     }
 }
 
-/// Does a call. Where a test isn't passed, the first refusal that applies is the reply, and nothing changes.
+/// Whether a call is a turn that is asked for in the run of a routine, which may be in a turn itself.
+fn is_nested(ask: &Ask, call: &Call) -> bool
+    ensures { result ≡ is_nested ask.now call.now }
+{
+    matches!((ask, call), (Ask::Routine(_), Call::Turn { .. }))
+}
+
+/// Does a call of a caller that was asked this. Where a test isn't passed, the first refusal that applies is the reply, and
+/// nothing changes.
 #[inline(always)]
 #[tactic(auto, using(crate::proofs::Allowed::refused_step, crate::proofs::Allowed::allowed_step, crate::proofs::Allowed::all_passed))]
-pub fn act(call: Call, pool: &mut ObjectPool) -> Motion
+pub fn act(ask: &Ask, call: Call, pool: &mut ObjectPool) -> Motion
     requires ready { pool.old.ready ≡ true }
     requires no_report { report_of call ≡ None }
     requires reference { RefsMayGo pool.old.pool.rows }
     requires queues { QueuesAreKept pool.old.pool }
     ensures goes { ReadyFor result pool.new.ready }
     ensures works { pool.new.works ≡ pool.old.works }
-    ensures moved { (q : AskData) → move_of q result pool.new.pool ≡ call_step (refusals pool.old.pool call) q call pool.old.pool }
+    ensures moved { move_of ask.now result pool.new.pool ≡ call_step (refusals_at ask.now pool.old.pool call) ask.now call pool.old.pool }
 {
+    if is_nested(ask, &call) {
+        return Motion::Replies(ShortReply::No(Refusal::Nested));
+    }
     match check(&call, pool) {
-        Ok(()) => effect(call, pool),
+        Ok(()) => effect(ask, call, pool),
         Err(why) => Motion::Replies(ShortReply::No(why)),
     }
 }

@@ -1,18 +1,18 @@
 //! What a call is refused for: each test, and tests one after another.
 ghost use Rattle.std.specs.Prelude.{◌≡◌, ◌<◌, [], ◌∷◌, not, IsOk};
 ghost use Rattle.std.specs.Option.{option_copied, option_map};
-ghost use Rattle.tree_specs.specs.Tree.Pool.{row_of, is_dying};
+ghost use Rattle.tree_specs.specs.Tree.Pool.{row_of, is_dying, is_usable_row};
 ghost use Rattle.tree_specs.specs.declared.reply.Refusal.TheVariants.{WrongKind};
-ghost use Rattle.tree_specs.specs.Calls.Refusals.{checked, refuse_if, is_going, is_doomed, is_running, small, owner, object_row, open_one, unused, room, apart, held, interested, given_by, unreferenced, growing, size_limit, refusal_of, refused};
+ghost use Rattle.tree_specs.specs.Calls.Refusals.{checked, refuse_if, is_going, is_doomed, is_running, small, owner, context as unusable, object_row, open_one, unused, room, apart, held, interested, given_by, unreferenced, growing, size_limit, refusal_of, refused};
 
 use crate::request_checks::{check_failing, check_finished, check_in_progress, check_number};
 use crate::subject::Subject;
 use object_pool::ObjectPool;
 use tree_specs::Test::{
-    Fits, HasNumber, HasRoom, IsDescriptor, IsFinished, IsImmediate, IsInProgress, IsInterested,
-    IsMovable, IsNotDoomed, IsNotDying, IsNotGoing, IsNotInside, IsNotRunning, IsObject, IsOpen,
-    IsOwner, IsPlain, IsQueue, IsReferable, IsRequest, IsSmall, IsUnheld, IsUnreferenced,
-    IsUnwatched, MayFail, MayGive, MayGrow,
+    Fits, HasNumber, HasRoom, IsContext, IsDescriptor, IsFinished, IsImmediate, IsInProgress,
+    IsInterested, IsMovable, IsNotDoomed, IsNotDying, IsNotGoing, IsNotInside, IsNotRunning,
+    IsObject, IsOpen, IsOwner, IsPlain, IsQueue, IsReferable, IsRequest, IsSmall, IsUnheld,
+    IsUnreferenced, IsUnwatched, MayFail, MayGive, MayGrow,
 };
 use tree_specs::{Kind, Mark, Obj, Owner, ROW_LIMIT, Refusal, Row, SIZE_LIMIT, Test};
 
@@ -103,6 +103,14 @@ fn is_running(x: Obj, objects: &Subject) -> bool
     )
 }
 
+/// Whether nothing goes on with an object, or its handler or its turn is under way, after which it stays.
+#[inline]
+fn is_lasting(x: Obj, objects: &Subject) -> bool
+    ensures { result ≡ is_usable_row (row_of objects.now.rows x) }
+{
+    matches!(mark_of(x, objects), Some(Mark::Quiet | Mark::Busy))
+}
+
 /// Refuses for this reason where `is` holds.
 #[inline]
 fn refuse_if(is: bool, why: Refusal) -> Result<(), Refusal>
@@ -120,6 +128,20 @@ fn check_kind(x: Obj, is: bool) -> Result<(), Refusal>
     ensures { result ≡ checked (refuse_if (not is) (WrongKind x)) }
 {
     refuse_if(!is, Refusal::WrongKind(x))
+}
+
+/// Refuses a context that is none, that is being freed, or that is to be after its turn. The first one always is there.
+#[tactic(auto, using(crate::proofs::Allowed::refused_three, crate::proofs::Allowed::allowed_three))]
+pub fn check_context(context: Obj, objects: &Subject) -> Result<(), Refusal>
+    ensures { result ≡ checked (unusable objects.now context) }
+{
+    if context == Obj::first_context() {
+        return Ok(());
+    }
+    check_row(context, objects.row(context))?;
+    let kind = kind_of(context, objects);
+    check_kind(context, matches!(kind, Some(Kind::Context)))?;
+    refuse_if(!is_lasting(context, objects), Refusal::Dying(context))
 }
 
 /// Refuses a descriptor that isn't open.
@@ -235,6 +257,7 @@ fn check_test(test: Test, objects: &Subject) -> Result<(), Refusal>
         IsDescriptor(x) => check_kind(x, matches!(kind_of(x, objects), Some(Kind::Descriptor))),
         IsRequest(x) => check_kind(x, matches!(kind_of(x, objects), Some(Kind::Request))),
         IsQueue(x) => check_kind(x, matches!(kind_of(x, objects), Some(Kind::Queue))),
+        IsContext(context) => check_context(context, objects),
         IsMovable(x) => check_kind(x, !matches!(kind_of(x, objects), Some(Kind::Entry))),
         IsReferable(x) => {
             let kind = kind_of(x, objects);

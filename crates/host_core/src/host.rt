@@ -34,11 +34,11 @@ use std::marker::Model;
 use tree_specs::{Ask, Call, Event, Input, Kind, Memory, Obj, Owner, Reply, Want};
 
 /// Takes the memory for all that comes up to the next question: each request that wasn't received and each queue may
-/// need two places, and what is at work four. If memory runs out, the works and the objects are as they were.
+/// need two places, what is at work four, and a turn at its end one. If memory runs out, the works and the objects are as they were.
 fn make_room(parts: &mut Parts) -> Result<(), Memory>
     ensures waiting { parts.new.waiting.items ≡ parts.old.waiting.items }
     ensures kept { vec_capacity parts.old.waiting ≤ vec_capacity parts.new.waiting }
-    ensures places { OnOk result (length parts.new.waiting.items + 2 * (count_unreceived parts.old.objects.pool.requests + length parts.old.objects.pool.queues.running) + 4 ≤ vec_capacity parts.new.waiting) }
+    ensures places { OnOk result (length parts.new.waiting.items + 2 * (count_unreceived parts.old.objects.pool.requests + length parts.old.objects.pool.queues.running) + 5 ≤ vec_capacity parts.new.waiting) }
     ensures ok { OnOk result (parts.new.objects ≡ record parts.old.objects { ready = true }) }
     ensures err { OnErr result (parts.new.objects ≡ parts.old.objects) }
     ensures order { AreInOrder parts.old.objects.pool.requests }
@@ -48,7 +48,7 @@ fn make_room(parts: &mut Parts) -> Result<(), Memory>
         .checked_add(parts.objects.count_queues())
         .ok_or(Memory)?;
     let places = most.checked_mul(2).ok_or(Memory)?;
-    parts.waiting.reserve(places.checked_add(4).ok_or(Memory)?)?;
+    parts.waiting.reserve(places.checked_add(5).ok_or(Memory)?)?;
     parts.objects.reserve()
 }
 
@@ -100,7 +100,7 @@ impl Host {
     ghost use Rattle.std.specs.Prelude.{◌&&◌};
     ghost use Rattle.tree_specs.specs.declared.object.Owner.TheVariants.{Of as At};
     ghost use Rattle.std.specs.Option.{option_map};
-    ghost use Rattle.tree_specs.specs.Tree.Pool.{row_of, is_row, is_inside as inside};
+    ghost use Rattle.tree_specs.specs.Tree.Pool.{row_of, is_row, ring_here, is_inside as inside};
     ghost use Rattle.tree_specs.specs.declared.object.Obj.{Obj as ObjData};
     ghost use Rattle.tree_specs.specs.Calls.Refusals.{is_queue_row, is_request_row};
     ghost use Rattle.tree_specs.specs.Events.Queues.{has_queue, is_entered};
@@ -168,10 +168,11 @@ impl Host {
         self.parts.objects.is_open(fd)
     }
 
-    /// Gives the descriptors that are watched for something, and what for, in the order in which a turn looks at them,
-    /// in place of what was in `out`. If memory runs out, nothing is given.
+    /// Gives the descriptors that are watched for something in the context whose turn is under way, or in the first one,
+    /// and what for, in the order in which a turn looks at them, in place of what was in `out`. If memory runs out, nothing
+    /// is given.
     pub fn wants(&self, out: &mut Vec<Want>) -> Result<(), Memory>
-        ensures wants { OnOk result (out.new.items ≡ wanted_of self.now.pool.ring) }
+        ensures wants { OnOk result (out.new.items ≡ wanted_of (ring_here self.now.pool)) }
         ensures nothing { OnErr result (out.new.items ≡ []) }
     {
         self.parts.objects.wants(out)

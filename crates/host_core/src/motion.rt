@@ -17,7 +17,7 @@ pub enum Motion {
     Empties(Obj),
     /// The outside is asked this, and the caller waits for the answer.
     Asks(Ask),
-    /// A turn of the event loop begins, and the caller waits; a routine is refused one.
+    /// A turn of a context has begun for the host's own caller, who waits.
     Turns,
     /// This is done for a request, and the caller waits.
     Works(Errand, Obj),

@@ -32,30 +32,25 @@ use crate::waiting::Waiting;
 use crate::work::Work;
 use crate::works::{end, go_on, settle_on};
 use object_pool::ObjectPool;
-use tree_specs::{Act, Ask, Call, Input, Refusal, TurnFrame};
+use tree_specs::{Act, Ask, Call, Input, TurnFrame};
 
-/// Begins a turn for the host's own caller. A routine is refused one, since it may run in a turn itself.
-fn turn(ask: Ask) -> Step
-    ensures step { (p : PoolData) → step_of result p ≡ move_of ask Motion.Turns p }
+/// A turn of a context that has begun looks what comes first. The host's own caller waits for it.
+fn turn() -> Step
+    ensures step { (p : PoolData) → step_of result p ≡ move_of Ask.Quiet Motion.Turns p }
     ensures busy { IsBusy result }
-    ensures places { step_places result ≤ 3 }
+    ensures places { step_places result ≤ 4 }
     ensures ready { (o : ObjectsData) → o.ready ≡ true → StepReady result o }
     ensures answers { (ws : List WaitingData) (o : ObjectsData) → StepAnswers result ws o }
 {
-    match ask {
-        Ask::Quiet => {
-            let turn = Active::Turning(Turn::new(TurnFrame::Taking));
-            Step::Calls(turn, Waiting::Turning { ask: Ask::Quiet })
-        }
-        _ => replies(ask, ShortReply::No(Refusal::Nested)),
-    }
+    let turn = Active::Turning(Turn::new(TurnFrame::Taking));
+    Step::Calls(turn, Waiting::Turning { ask: Ask::Quiet })
 }
 
 /// The reply to the call of the caller that was asked comes next.
 fn replies(ask: Ask, reply: ShortReply) -> Step
     ensures step { (p : PoolData) → step_of result p ≡ move_of ask (Motion.Replies reply) p }
     ensures busy { IsBusy result }
-    ensures places { step_places result ≤ 3 }
+    ensures places { step_places result ≤ 4 }
     ensures ready { (o : ObjectsData) → StepReady result o }
     ensures answers { (ws : List WaitingData) (o : ObjectsData) → StepAnswers result ws o }
 {
@@ -66,7 +61,7 @@ fn replies(ask: Ask, reply: ShortReply) -> Step
 fn call_step(ask: Ask, motion: Motion) -> Step
     ensures step { (p : PoolData) → step_of result p ≡ move_of ask motion p }
     ensures busy { IsBusy result }
-    ensures places { step_places result ≤ 3 }
+    ensures places { step_places result ≤ 4 }
     ensures ready { (o : ObjectsData) → ReadyFor motion o.ready → StepReady result o }
     ensures answers { (ws : List WaitingData) (o : ObjectsData) → StepAnswers result ws o }
 {
@@ -81,7 +76,7 @@ fn call_step(ask: Ask, motion: Motion) -> Step
         Motion::Asks(question) => {
             Step::Calls(Active::Reaching(question), Waiting::Turning { ask })
         }
-        Motion::Turns => turn(ask),
+        Motion::Turns => turn(),
         Motion::Works(errand, x) => {
             let work = Active::Requesting(Work::of(errand, x));
             Step::Calls(work, Waiting::Requesting { ask })
@@ -90,6 +85,7 @@ fn call_step(ask: Ask, motion: Motion) -> Step
 }
 
 /// What is still to do of a turn once it was told the time, in microseconds, or which descriptors are ready.
+#[tactic(auto, using(crate::proofs::Turning::looked_given))]
 fn turn_given(frame: TurnFrame, input: &Input, objects: &ObjectPool) -> TurnFrame
     requires { is_none (misfit (turn_asks frame) input.now) ≡ true }
     ensures { result ≡ turn_given frame input.now objects.now.pool }
@@ -160,7 +156,7 @@ pub fn begin_call(now: &mut Active, call: Call, parts: &mut Parts) -> Option<Sho
     ensures replied { (q : AskData) (reply : ShortReplyData) (next : ActiveData) → caller_asked now.old ≡ Some q → result ≡ Some reply → active_frame next ≡ frames.Call (telling q reply) → ComesTo (called_view q (Input.Call call) parts.old) next parts.new }
     ensures begun { (q : AskData) → caller_asked now.old ≡ Some q → result ≡ None → ComesTo (called_view q (Input.Call call) parts.old) now.new parts.new }
 {
-    match act(call, &mut parts.objects) {
+    match act(now.asked(), call, &mut parts.objects) {
         Motion::Replies(reply) => Some(reply),
         begins => {
             begin_on(now, begins, parts);

@@ -5,21 +5,23 @@ ghost use Rattle.tree_specs.specs.Calls.Refusals.{checked, refused, refusals};
 ghost use Rattle.tree_specs.specs.declared.object.Owner.TheVariants.{Of as At};
 ghost use Rattle.tree_specs.specs.Tree.Sums.{overhead};
 
-use crate::checks::{check_open, check_owner, check_row, check_size, check_three, check_two};
+use crate::checks::{
+    check_context, check_open, check_owner, check_row, check_size, check_three, check_two,
+};
 use crate::subject::Subject;
 use object_pool::ObjectPool;
 use tree_specs::Call::{
-    Accept, Autoclose, Callback, Cancel, Cleanup, Close, Count, Defer, Done, Endtime, Enqueue,
-    Error, Fd, Flags, Free, Freekids, Getflags, Hook, Immediate, Iserror, Length, Limit, Move, New,
-    Now, Oom, Parent, Pending, Post, Progress, Queue, Read, Received, Reference, Rename, Reparent,
-    Report, Req, Resize, Running, Schedule, Setcancel, Start, Steal, Stop, Sum, Timer, Total, Turn,
-    Unhook, Unlink, Unschedule, Write,
+    Accept, Autoclose, Callback, Cancel, Cleanup, Close, Context, Count, Defer, Done, Endtime,
+    Enqueue, Error, Fd, Flags, Free, Freekids, Getflags, Hook, Immediate, Iserror, Length, Limit,
+    Move, New, Now, Oom, Parent, Pending, Post, Progress, Queue, Read, Received, Reference, Rename,
+    Reparent, Report, Req, Resize, Running, Schedule, Setcancel, Start, Steal, Stop, Sum, Timer,
+    Total, Turn, Unhook, Unlink, Unschedule, Write,
 };
 use tree_specs::Test::{
-    Fits, HasNumber, HasRoom, IsDescriptor, IsFinished, IsImmediate, IsInProgress, IsInterested,
-    IsMovable, IsNotDoomed, IsNotDying, IsNotGoing, IsNotInside, IsNotRunning, IsObject, IsOpen,
-    IsOwner, IsPlain, IsQueue, IsReferable, IsRequest, IsSmall, IsUnheld, IsUnreferenced,
-    IsUnwatched, MayFail, MayGive, MayGrow,
+    Fits, HasNumber, HasRoom, IsContext, IsDescriptor, IsFinished, IsImmediate, IsInProgress,
+    IsInterested, IsMovable, IsNotDoomed, IsNotDying, IsNotGoing, IsNotInside, IsNotRunning,
+    IsObject, IsOpen, IsOwner, IsPlain, IsQueue, IsReferable, IsRequest, IsSmall, IsUnheld,
+    IsUnreferenced, IsUnwatched, MayFail, MayGive, MayGrow,
 };
 use tree_specs::{Call, OVERHEAD, Obj, Owner, Refusal, Test};
 
@@ -56,13 +58,13 @@ fn check_new_request(owner: Owner, size: u64, pool: &ObjectPool) -> Result<(), R
 }
 
 /// The tests of setting the end time of a request.
-#[tactic(auto, using(crate::proofs::Allowed::refused_two, crate::proofs::Allowed::allowed_two))]
-fn check_endtime(x: Obj, pool: &ObjectPool) -> Result<(), Refusal>
-    ensures { result ≡ checked (refused pool.now.pool (Test.IsObject x ∷ Test.IsRequest x ∷ Test.IsInProgress x ∷ Test.HasNumber ∷ [])) }
+#[tactic(auto, using(crate::proofs::Allowed::refused_three, crate::proofs::Allowed::allowed_three))]
+fn check_endtime(x: Obj, context: Obj, pool: &ObjectPool) -> Result<(), Refusal>
+    ensures { result ≡ checked (refused pool.now.pool (Test.IsObject x ∷ Test.IsRequest x ∷ Test.IsInProgress x ∷ Test.IsContext context ∷ Test.HasNumber ∷ [])) }
 {
     let objects = Subject::object(x, pool);
-    check_two(IsObject(x), IsRequest(x), &objects)?;
-    check_two(IsInProgress(x), HasNumber, &objects)
+    check_three(IsObject(x), IsRequest(x), IsInProgress(x), &objects)?;
+    check_two(IsContext(context), HasNumber, &objects)
 }
 
 /// Tests that an object is there, and two more tests of it.
@@ -71,6 +73,22 @@ fn check_object(x: Obj, second: Test, third: Test, pool: &ObjectPool) -> Result<
     ensures { result ≡ checked (refused pool.now.pool (Test.IsObject x ∷ second ∷ third ∷ [])) }
 {
     check_three(IsObject(x), second, third, &Subject::object(x, pool))
+}
+
+/// Tests that an object is there, two more tests of it, and that something may come in a context.
+#[tactic(auto, using(crate::proofs::Allowed::refused_two, crate::proofs::Allowed::allowed_two))]
+fn check_object_in(
+    x: Obj,
+    second: Test,
+    third: Test,
+    context: Obj,
+    pool: &ObjectPool,
+) -> Result<(), Refusal>
+    ensures { result ≡ checked (refused pool.now.pool (Test.IsObject x ∷ second ∷ third ∷ Test.IsContext context ∷ [])) }
+{
+    let objects = Subject::object(x, pool);
+    check_two(IsObject(x), second, &objects)?;
+    check_two(third, IsContext(context), &objects)
 }
 
 /// The tests of putting an object below an owner.
@@ -115,11 +133,22 @@ fn check_resize(x: Obj, size: u64, pool: &ObjectPool) -> Result<(), Refusal>
 
 /// The tests of a new event on a descriptor below an owner.
 #[tactic(auto, using(crate::proofs::Allowed::refused_three, crate::proofs::Allowed::allowed_three))]
-fn check_watching(owner: Owner, fd: u32, pool: &ObjectPool) -> Result<(), Refusal>
-    ensures { result ≡ checked (refused pool.now.pool (Test.IsOwner owner ∷ Test.IsOpen fd ∷ Test.IsUnwatched fd ∷ Test.HasRoom 1 ∷ Test.Fits owner overhead ∷ [])) }
+fn check_watching(owner: Owner, fd: u32, context: Obj, pool: &ObjectPool) -> Result<(), Refusal>
+    ensures { result ≡ checked (refused pool.now.pool (Test.IsOwner owner ∷ Test.IsOpen fd ∷ Test.IsUnwatched fd ∷ Test.IsContext context ∷ Test.HasRoom 1 ∷ Test.Fits owner overhead ∷ [])) }
 {
     let objects = Subject::none(pool);
     check_three(IsOwner(owner), IsOpen(fd), IsUnwatched(fd), &objects)?;
+    let fits = Fits(owner, OVERHEAD);
+    check_three(IsContext(context), HasRoom(1), fits, &objects)
+}
+
+/// The tests of a new timer below an owner.
+#[tactic(auto, using(crate::proofs::Allowed::refused_two, crate::proofs::Allowed::allowed_two))]
+fn check_timer(owner: Owner, context: Obj, pool: &ObjectPool) -> Result<(), Refusal>
+    ensures { result ≡ checked (refused pool.now.pool (Test.IsOwner owner ∷ Test.IsContext context ∷ Test.HasRoom 1 ∷ Test.Fits owner overhead ∷ [])) }
+{
+    let objects = Subject::none(pool);
+    check_two(IsOwner(owner), IsContext(context), &objects)?;
     check_two(HasRoom(1), Fits(owner, OVERHEAD), &objects)
 }
 
@@ -132,13 +161,14 @@ fn check_lasting_queue(queue: Obj, pool: &ObjectPool) -> Result<(), Refusal>
 
 /// The tests of putting a request into a queue. Those of the queue come first.
 #[tactic(auto, using(crate::proofs::Allowed::refused_three, crate::proofs::Allowed::allowed_three))]
-fn check_enqueue(queue: Obj, x: Obj, pool: &ObjectPool) -> Result<(), Refusal>
-    ensures { result ≡ checked (refused pool.now.pool (Test.IsObject queue ∷ Test.IsQueue queue ∷ Test.IsNotGoing queue ∷ Test.IsObject x ∷ Test.IsRequest x ∷ Test.IsNotDying x ∷ Test.HasRoom 1 ∷ Test.Fits (At x) overhead ∷ [])) }
+fn check_enqueue(queue: Obj, x: Obj, context: Obj, pool: &ObjectPool) -> Result<(), Refusal>
+    ensures { result ≡ checked (refused pool.now.pool (Test.IsObject queue ∷ Test.IsQueue queue ∷ Test.IsNotGoing queue ∷ Test.IsObject x ∷ Test.IsRequest x ∷ Test.IsNotDying x ∷ Test.IsContext context ∷ Test.HasRoom 1 ∷ Test.Fits (At x) overhead ∷ [])) }
 {
     check_lasting_queue(queue, pool)?;
     let objects = Subject::object(x, pool);
     check_three(IsObject(x), IsRequest(x), IsNotDying(x), &objects)?;
-    check_two(HasRoom(1), Fits(Owner::Of(x), OVERHEAD), &objects)
+    let fits = Fits(Owner::Of(x), OVERHEAD);
+    check_three(IsContext(context), HasRoom(1), fits, &objects)
 }
 
 /// The tests of freeing an object.
@@ -148,7 +178,7 @@ pub fn check_free(x: Obj, pool: &ObjectPool) -> Result<(), Refusal>
     check_known(x, IsUnheld(x), pool)
 }
 
-/// The tests of making an event that waits for no descriptor, or a queue: it counts as an object of no size.
+/// The tests of making a context, an event that waits for nothing yet, or a queue: it counts as an object of no size.
 fn check_small(owner: Owner, pool: &ObjectPool) -> Result<(), Refusal>
     ensures { result ≡ checked (refused pool.now.pool (Test.IsOwner owner ∷ Test.HasRoom 1 ∷ Test.Fits owner overhead ∷ [])) }
 {
@@ -168,7 +198,7 @@ fn check_known(x: Obj, second: Test, pool: &ObjectPool) -> Result<(), Refusal>
     check_two(IsObject(x), second, &Subject::object(x, pool))
 }
 
-/// The tests of scheduling an immediate, or of having it come no more.
+/// The tests of having an immediate come no more.
 fn check_immediate(x: Obj, pool: &ObjectPool) -> Result<(), Refusal>
     ensures { result ≡ checked (refused pool.now.pool (Test.IsObject x ∷ Test.IsImmediate x ∷ Test.IsNotDoomed x ∷ [])) }
 {
@@ -202,25 +232,41 @@ pub fn check(call: &Call, pool: &ObjectPool) -> Result<(), Refusal>
         Unlink { owner, x } => check_object(x, IsOwner(owner), IsInterested(owner, x), pool),
         Hook { x, .. } | Unhook { x } => check_object(x, IsPlain(x), IsNotDying(x), pool),
         Resize { x, size } => check_resize(x, size, pool),
-        Immediate { owner } | Timer { owner, .. } | Queue { owner, .. } => check_small(owner, pool),
-        Schedule { x, .. } | Unschedule { x } => check_immediate(x, pool),
-        Fd { owner, fd, .. } => check_watching(owner, fd, pool),
+        Context { owner } | Immediate { owner } | Queue { owner, .. } => check_small(owner, pool),
+        Schedule { x, context, .. } => {
+            check_object_in(x, IsImmediate(x), IsNotDoomed(x), context, pool)
+        }
+        Unschedule { x } => check_immediate(x, pool),
+        Timer { owner, context, .. } => check_timer(owner, context, pool),
+        Fd {
+            owner,
+            fd,
+            context,
+            ..
+        } => check_watching(owner, fd, context, pool),
         Flags { x, .. } | Getflags { x } | Autoclose { x } => check_watcher(x, pool),
         Close { fd } => check_two(IsOpen(fd), IsUnwatched(fd), &Subject::none(pool)),
         Accept { fd } | Read { fd, .. } | Write { fd, .. } => check_open(fd, pool),
         Req { owner, size, .. } => check_new_request(owner, size, pool),
-        Callback { x, .. } | Defer { x } | Cleanup { x, .. } | Setcancel { x, .. } => {
+        Callback { x, .. } | Cleanup { x, .. } | Setcancel { x, .. } => {
             check_object(x, IsRequest(x), IsNotDying(x), pool)
         }
-        Post { x } => check_object(x, IsRequest(x), IsFinished(x), pool),
+        Defer { x, context } => check_object_in(x, IsRequest(x), IsNotDying(x), context, pool),
+        Post { x, context } => check_object_in(x, IsRequest(x), IsFinished(x), context, pool),
         Done { x } | Oom { x } => check_object(x, IsRequest(x), IsInProgress(x), pool),
         Error { x, error } => check_object(x, IsRequest(x), MayFail(x, error), pool),
-        Endtime { x, .. } => check_endtime(x, pool),
+        Endtime { x, context, .. } => check_endtime(x, context, pool),
         Cancel { x } | Iserror { x } | Progress { x } | Received { x } => check_request(x, pool),
-        Enqueue { queue, x, .. } => check_enqueue(queue, x, pool),
+        Enqueue {
+            queue,
+            x,
+            context,
+            ..
+        } => check_enqueue(queue, x, context, pool),
         Start { queue } | Stop { queue } => check_lasting_queue(queue, pool),
         Length { queue } | Running { queue } => check_known(queue, IsQueue(queue), pool),
-        Pending | Now | Turn => Ok(()),
+        Now => Ok(()),
+        Pending { context } | Turn { context } => check_context(context, &Subject::none(pool)),
         Parent { x } => check_known(x, IsNotDying(x), pool),
         Freekids { x } | Rename { x, .. } | Limit { x, .. } => check_row(x, pool.row(x)),
         Total { owner } | Count { owner } | Sum { owner } | Report { owner } => {

@@ -6,7 +6,7 @@ ghost use Rattle.host_core.specs.Steps.{step_of};
 ghost use Rattle.host_core.specs.Going.{goes_as, GoesWell, IsTurnStep, IsPlainErrand};
 ghost use Rattle.host_core.specs.Hosts.{FrameReady};
 ghost use Rattle.host_core.specs.Places.{turn_takes};
-ghost use Rattle.tree_specs.specs.declared.frame.TurnFrame.TheVariants.{Starting, Handled};
+ghost use Rattle.tree_specs.specs.declared.frame.TurnFrame.TheVariants.{Starting, Handled, Closing};
 ghost use Rattle.tree_specs.specs.Events.Coming.{at_time};
 ghost use Rattle.tree_specs.specs.Events.Requests.{is_noted};
 ghost use Rattle.tree_specs.specs.Promises.Grounded.{is_asked};
@@ -43,7 +43,7 @@ fn comes(what: What, x: Obj, now: u64, errand: Errand, objects: &ObjectPool) -> 
     requires plain { IsPlainErrand errand }
     requires ready { objects.now.ready ≡ true }
     ensures step { step_of result objects.now.pool ≡ come_step (is_noted objects.now.pool.requests x) errand what x (at_time now) objects.now.pool }
-    ensures goes { GoesWell 2 result objects.now }
+    ensures goes { GoesWell 3 result objects.now }
     ensures ends { IsTurnStep result }
 {
     if objects.note(x).is_none() {
@@ -58,7 +58,7 @@ fn comes(what: What, x: Obj, now: u64, errand: Errand, objects: &ObjectPool) -> 
 fn comes_soon(x: Obj, objects: &ObjectPool) -> Step
     requires ready { objects.now.ready ≡ true }
     ensures step { step_of result objects.now.pool ≡ soon_step (is_noted objects.now.pool.requests x) x objects.now.pool }
-    ensures goes { GoesWell 2 result objects.now }
+    ensures goes { GoesWell 3 result objects.now }
     ensures ends { IsTurnStep result }
 {
     if objects.note(x).is_some() || objects.queue_running(x).is_none() {
@@ -72,7 +72,7 @@ fn comes_soon(x: Obj, objects: &ObjectPool) -> Step
 fn picked(pick: Pick, waited: bool, objects: &ObjectPool) -> Step
     requires ready { objects.now.ready ≡ true }
     ensures step { step_of result objects.now.pool ≡ picked_step waited pick objects.now.pool }
-    ensures goes { GoesWell 2 result objects.now }
+    ensures goes { GoesWell 3 result objects.now }
     ensures ends { IsTurnStep result }
 {
     match pick {
@@ -95,8 +95,9 @@ fn picked(pick: Pick, waited: bool, objects: &ObjectPool) -> Step
 
 /// Makes what comes busy, and goes on to tell that its handler runs. Where it has none the turn is over.
 fn start(what: What, x: Obj, occasion: Occasion, objects: &mut ObjectPool) -> Step
+    requires ready { objects.old.ready ≡ true }
     ensures step { step_of result objects.new.pool ≡ turn_step (Starting what x occasion) objects.old.pool }
-    ensures goes { GoesWell 1 result objects.new }
+    ensures goes { GoesWell 3 result objects.new }
     ensures ends { IsTurnStep result }
     ensures rest { objects.new ≡ record objects.old { pool = objects.new.pool } }
     ensures requests { objects.new.pool.requests ≡ objects.old.pool.requests }
@@ -127,6 +128,25 @@ fn handled(what: What, x: Obj, objects: &mut ObjectPool) -> Step
         return Step::Frees(x, Waiting::Turn(TurnFrame::Clearing { x }));
     }
     goes(TurnFrame::Closing { value: 1 })
+}
+
+/// Ends a turn. Its context is quiet again, or the turn waits until this is freed.
+fn close(value: u64, objects: &mut ObjectPool) -> Step
+    requires may { MayTurn (Closing value) objects.old.pool }
+    requires ready { FrameReady (Closing value) objects.old }
+    ensures step { step_of result objects.new.pool ≡ turn_step (Closing value) objects.old.pool }
+    ensures goes { GoesWell 2 result objects.new }
+    ensures ends { IsTurnStep result }
+    ensures rest { objects.new ≡ record objects.old { pool = objects.new.pool } }
+    ensures requests { objects.new.pool.requests ≡ objects.old.pool.requests }
+{
+    match objects.exit() {
+        Some(context) => {
+            let parting = TurnFrame::Parting { x: context, value };
+            Step::Frees(context, Waiting::Turn(parting))
+        }
+        None => Step::Ends(Answer::Turned(value)),
+    }
 }
 
 /// Makes the next step of a turn that tells and asks nothing with it.
@@ -160,7 +180,7 @@ pub fn turn_step(frame: TurnFrame, objects: &mut ObjectPool) -> Step
             Step::Calls(routine, Waiting::Turn(frame))
         }
         TurnFrame::Handled { what, x } => handled(what, x, objects),
-        TurnFrame::Closing { value } => Step::Ends(Answer::Turned(value)),
+        TurnFrame::Closing { value } => close(value, objects),
         _ => unreachable!(),
     }
 }

@@ -30,6 +30,7 @@ pub fn turn_resumed(frame: TurnFrame) -> TurnFrame
     match frame {
         TurnFrame::Handling { what, x, .. } => TurnFrame::Handled { what, x },
         TurnFrame::Clearing { .. } | TurnFrame::Serving { .. } => TurnFrame::Closing { value: 1 },
+        TurnFrame::Parting { value, .. } => TurnFrame::Closing { value },
         _ => frame,
     }
 }

@@ -154,7 +154,7 @@ fn notify(x: Obj, errand: Errand, objects: &mut ObjectPool) -> Step
             handler,
             errand,
         }),
-        Notify::Post | Notify::Nothing => over(errand),
+        Notify::Post(_) | Notify::Nothing => over(errand),
     }
 }
 

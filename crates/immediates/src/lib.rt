@@ -1,7 +1,9 @@
-//! What comes as soon as it can (`tevent_schedule_immediate`): objects whose turn it is, one after another.
+//! What comes as soon as it can (`tevent_schedule_immediate`): objects whose turn it is, one after another, each in one of
+//! several event contexts.
 #![tactic(auto)]
 
-mod side;
+mod change;
+mod node;
 mod soon;
 #[cfg(test)]
 mod tests;

@@ -1,9 +1,10 @@
 -- What the service's own steps do, by its parts: what it knows, its host, what is due, and how many answers are left to it.
-use Rattle.std.proofs.Common.{◌≡◌, ℕ, Bool, true, false, List, [], ◌∷◌, Option, Some, None, Result, Ok, Err, OnOk, OnErr, refl, sym, ◌∙◌, ap, subst}
+use Rattle.std.proofs.Common.{◌≡◌, ℕ, true, List, [], Option, Some, None, Result, Ok, Err, OnOk, OnErr, refl, sym, ◌∙◌, ap, subst}
 use Rattle.std.specs.Option.{option_map}
 use Rattle.std.specs.Prelude.{is_some}
 use Rattle.tree_specs.specs.declared.call.Call.{Call}
 use Rattle.tree_specs.specs.declared.call.Call.TheVariants.{Turn}
+use Rattle.tree_specs.specs.Words.Objects.{first_context}
 use Rattle.tree_specs.specs.declared.event.Event.{Event}
 use Rattle.tree_specs.specs.declared.memory.Memory.{Memory}
 use Rattle.tree_specs.specs.declared.moment.Moment.{Moment}
@@ -47,11 +48,11 @@ module _ (s : StationView) (d : Knowledge) (v : View) (due : Option Task) (n : �
   -- ---- the next turn
 
   pub turn-begun : (w : View) (m : ℕ) (r : Result (Unit {0}) Memory) → may_be_due due (question_of v) ≡ true → question_of s.host ≡ Some ask.Quiet → Waits s.host → s.knows.setup ≡ Complete
-      → OnOk r (Gives v n (input.Call Turn) w m) → OnErr r (w ≡ v) → OnErr r (m ≡ n) → Shows [] s (seen d w due m)
+      → OnOk r (Gives v n (input.Call (Turn first_context)) w m) → OnErr r (w ≡ v) → OnErr r (m ≡ n) → Shows [] s (seen d w due m)
   turn-begun w m r may quiet waits complete ok host left =
       subst (λ (z : StationView). question_of z.host ≡ Some ask.Quiet → Waits z.host → z.knows.setup ≡ Complete → Shows [] z (seen d w due m)) is (each r ok host left) quiet waits complete
     where
-      each : (r : Result (Unit {0}) Memory) → OnOk r (Gives v n (input.Call Turn) w m) → OnErr r (w ≡ v) → OnErr r (m ≡ n) → question_of v ≡ Some ask.Quiet → Waits v → d.setup ≡ Complete → Shows [] (seen d v due n) (seen d w due m)
+      each : (r : Result (Unit {0}) Memory) → OnOk r (Gives v n (input.Call (Turn first_context)) w m) → OnErr r (w ≡ v) → OnErr r (m ≡ n) → question_of v ≡ Some ask.Quiet → Waits v → d.setup ≡ Complete → Shows [] (seen d v due n) (seen d w due m)
       each (Ok done) ok host left quiet waits complete = let none = not-due due (question_of v) may (ap is_own quiet) in turns (seen d v due n) (seen d w due m) none complete quiet waits ok refl none
       each (Err why) ok host left quiet waits complete = unchanged (seen d v due n) (seen d w due m) refl host refl left
 

@@ -3,6 +3,7 @@ use Rattle.std.proofs.Common.{◌≡◌, ℕ, zero, suc, ◌+◌, ◌*◌, lengt
 use Rattle.std.specs.Prelude.{nat_lt}
 use Rattle.tree_specs.specs.declared.call.Call.{Call}
 use Rattle.tree_specs.specs.declared.call.Call.TheVariants.{Turn}
+use Rattle.tree_specs.specs.Words.Objects.{first_context}
 use Rattle.tree_specs.specs.declared.event.Event.{Event}
 use Rattle.tree_specs.specs.declared.event.Event.TheVariants.{Replied}
 use Rattle.tree_specs.specs.declared.frame.Frame.{Frame}
@@ -16,8 +17,7 @@ use Rattle.tree_specs.specs.declared.question.Ask.TheVariants as ask
 use Rattle.tree_specs.specs.declared.question.Input.{Input}
 use Rattle.tree_specs.specs.declared.question.Input.TheVariants as input
 use Rattle.tree_specs.specs.declared.reply.Reply.{Reply}
-use Rattle.tree_specs.specs.Rules.Items.{Item}
-use Rattle.tree_specs.specs.Rules.Items.Item.{Told, Asked}
+use Rattle.tree_specs.specs.Rules.Items.Item.{Asked}
 use Rattle.tree_specs.specs.Texts.Schedule.{misfit}
 use Rattle.tree_specs.specs.Words.Ranges.{is_sound_call}
 use Rattle.tree_specs.specs.Machine.View.{View, begin, question_of, strays_of}
@@ -26,7 +26,7 @@ use Rattle.machine_driver.specs.Seen.{sight}
 use Rattle.tree_stories.specs.Sights.{sights_of}
 use Rattle.tree_stories.proofs.Outsides.{AsksOutside}
 use Rattle.host_core.specs.Promises as promises
-use Rattle.host_core.specs.Promises.{NextLaw, RepliesAtOnce, Waits}
+use Rattle.host_core.specs.Promises.{NextLaw, Waits}
 use Rattle.host_core.specs.Reaches.{IsOutside}
 use Rattle.service_rules.specs.declared.task.Run.TheVariants.{Own}
 use Rattle.service_rules.specs.declared.task.Task.{Task}
@@ -110,14 +110,14 @@ finds s s' m h none asked low waits comes knows due host left =
 
 -- ---- the next turn begins
 
-pub turns : (s s' : StationView) → s.due ≡ None → s.knows.setup ≡ Complete → question_of s.host ≡ Some ask.Quiet → Waits s.host → Gives s.host s.left (input.Call Turn) s'.host s'.left → s'.knows ≡ s.knows → s'.due ≡ None → Shows [] s s'
+pub turns : (s s' : StationView) → s.due ≡ None → s.knows.setup ≡ Complete → question_of s.host ≡ Some ask.Quiet → Waits s.host → Gives s.host s.left (input.Call (Turn first_context)) s'.host s'.left → s'.knows ≡ s.knows → s'.due ≡ None → Shows [] s s'
 turns s s' none complete asked waits g knows none' =
     along [] s (at s.knows s.host (suc s'.left)) s' (at s.knows s'.host s'.left) (rebuilt s (suc s'.left) none g.counted) (rebuilt s' s'.left none' refl ∙ ap (λ (z : Knowledge). at z s'.host s'.left) knows)
-    (own-next s.knows s.knows s.host s'.host s'.left ask.Quiet (input.Call Turn) (opens s.host waits ask.Quiet asked) rests (takes s.host (input.Call Turn) s'.host ask.Quiet asked g.taken))
+    (own-next s.knows s.knows s.host s'.host s'.left ask.Quiet (input.Call (Turn first_context)) (opens s.host waits ask.Quiet asked) rests (takes s.host (input.Call (Turn first_context)) s'.host ask.Quiet asked g.taken))
   where
-    rests : own s.knows (opening s.host ask.Quiet) ≡ Some (input.Call Turn, s.knows)
+    rests : own s.knows (opening s.host ask.Quiet) ≡ Some (input.Call (Turn first_context), s.knows)
     rests = ap (λ (z : Setup). Some (input.Call (resting_call z), record s.knows { setup = further z })) complete
-        ∙ ap (λ (z : Setup). Some (input.Call Turn, record s.knows { setup = z })) (sym complete)
+        ∙ ap (λ (z : Setup). Some (input.Call (Turn first_context), record s.knows { setup = z })) (sym complete)
 
 -- ---- an event was told
 

@@ -39,6 +39,7 @@ pub fn set_service_up(host: &mut Host) -> Result<(), Memory>
         flags: 1,
         routine: 1,
         user: 0,
+        context: Obj::first_context(),
     };
     set_up(host, listener)
 }

@@ -46,6 +46,7 @@ impl Station {
     ghost use Rattle.std.specs.Option.{option_copied};
     ghost use Rattle.tree_specs.specs.declared.schedule.Reason.TheVariants as reasons;
     ghost use Rattle.tree_specs.specs.Events.Rotation.{wanted_of};
+    ghost use Rattle.tree_specs.specs.Tree.Pool.{ring_here};
     ghost use Rattle.tree_specs.specs.Texts.Schedule.{misfit};
     ghost use Rattle.host_core.specs.Promises.{taken_by};
     ghost use Rattle.service_rules.specs.Stations.{IsAsked, NextLaw, Shows, TakesAnswer, asked_of, strays_to_come, unborn};
@@ -73,7 +74,7 @@ impl Station {
     /// Gives the descriptors that are watched for something, and what for, in the order in which a turn looks at them, in
     /// place of what was in `out`. If memory runs out, nothing is given.
     pub fn wants(&self, out: &mut Vec<Want>) -> Result<(), Memory>
-        ensures wants { OnOk result (out.new.items ≡ wanted_of self.now.host.pool.ring) }
+        ensures wants { OnOk result (out.new.items ≡ wanted_of (ring_here self.now.host.pool)) }
         ensures nothing { OnErr result (out.new.items ≡ []) }
     {
         self.host.wants(out)

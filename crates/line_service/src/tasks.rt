@@ -29,7 +29,13 @@ impl Station {
         requires complete { self.old.knows.setup ≡ Complete }
         ensures { Shows [] self.old self.new }
     {
-        give(&mut self.host, &mut self.left, Input::Call(Call::Turn))
+        give(
+            &mut self.host,
+            &mut self.left,
+            Input::Call(Call::Turn {
+                context: Obj::first_context(),
+            }),
+        )
     }
 
     /// The own routine that is asked goes on by one step.

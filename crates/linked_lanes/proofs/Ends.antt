@@ -1,5 +1,5 @@
 -- The last of a lane, and the list that the neighbours tell.
-use Rattle.std.proofs.Common.{◌≡◌, ℕ, zero, suc, ◌≤◌, true, false, nat_eq, List, [], ◌∷◌, length, Option, Some, None, refl, sym, ap, ◌∙◌, arith}
+use Rattle.std.proofs.Common.{◌≡◌, ◌↔◌, ℕ, zero, suc, ◌<◌, ◌≤◌, true, false, nat_eq, List, [], ◌∷◌, length, Option, Some, None, IsSome, refl, sym, ap, ◌∙◌, arith}
 use Rattle.std.proofs.lemmas.Bool.{eqb-true}
 use Rattle.std.specs.Option.{option_or}
 use Rattle.linked_lanes.specs.Lane.{first, has, after, before_from, last, last_from, without, Distinct}
@@ -48,6 +48,20 @@ no-last (y ∷ ys) e = absurd (go y ys e)
     go : (y : ℕ) (ys : List ℕ) → last_from (Some y) ys ≡ None → ⊥
     go y [] e = cc
     go y (z ∷ zs) e = go z zs e
+
+-- ---- whether there are ends
+
+pub some-first : (xs : List ℕ) → IsSome (first xs) ↔ (0 < length xs)
+some-first [] = (λ h. cc, λ h. absurd (omega (arith, h)))
+some-first (x ∷ xs) = (λ h. omega arith, λ h. refl)
+
+pub some-last : (xs : List ℕ) → IsSome (last xs) ↔ (0 < length xs)
+some-last [] = (λ h. cc, λ h. absurd (omega (arith, h)))
+some-last (x ∷ xs) = (λ h. omega arith, λ h. go x xs)
+  where
+    go : (x : ℕ) (xs : List ℕ) → IsSome (last_from (Some x) xs)
+    go x [] = refl
+    go x (y ∷ ys) = go y ys
 
 -- ---- the list that the neighbours tell
 

@@ -1,3 +1,4 @@
 pub mod Lanes
 pub mod Chains
 pub mod Ends
+pub mod Families

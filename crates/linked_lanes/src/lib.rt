@@ -1,10 +1,15 @@
 //! Lanes: distinct numbers in an order, newest first, kept by the neighbours that are noted beside each of them.
 //! Whoever keeps a lane keeps the neighbours and the head, and the last where it is needed; this crate says what they
-//! are, and proves what leaving the lane and joining it at its front do to them.
+//! are, and proves what leaving the lane and joining it at its front do to them. Where there are several lanes, each under
+//! a number, it proves what these do to all of them.
 #![tactic(auto)]
 
 ghost use Rattle.std.specs.Prelude.{◌≡◌};
 ghost use Rattle.linked_lanes.specs.Chain.{head_left, last_left, noted as noted_in};
+
+mod lane;
+
+pub use lane::Extent;
 
 /// The neighbours of one in its lane.
 #[derive(Clone, Copy)]

@@ -5,11 +5,12 @@ use Rattle.tree_specs.specs.declared.object.Owner.{Owner}
 use Rattle.tree_specs.specs.declared.row.Row.{Row}
 use Rattle.tree_specs.specs.declared.call.Call.{Call}
 use Rattle.tree_specs.specs.declared.call.Call.TheVariants as calls
+use Rattle.tree_specs.specs.declared.question.Ask.{Ask}
 use Rattle.tree_specs.specs.Words.Objects.{same}
 use Rattle.tree_specs.specs.Tree.Targets.{newest_ref}
 use Rattle.tree_specs.specs.Tree.Pool.{Pool, row_of, changed, without, in_front, remove, place, let_go}
-use Rattle.tree_specs.specs.Calls.Refusals.{Check, refusals, is_request, is_queue}
-use Rattle.tree_specs.specs.Calls.Plans.{Plan, plan, planned, frees, changed_by, unless_refused}
+use Rattle.tree_specs.specs.Calls.Refusals.{Check, refusals_at, is_request, is_queue}
+use Rattle.tree_specs.specs.Calls.Plans.{Plan, plan, planned_at, frees, changed_by, unless_refused}
 use Rattle.tree_specs.specs.Calls.Plans.Plan.{Does, Frees, Unlinks}
 use Rattle.tree_specs.proofs.Tree.Numbered.{by_test}
 
@@ -92,5 +93,5 @@ calm-unless : (checks : Check) (w : Plan) → IsCalm w → IsCalm (unless_refuse
 calm-unless [] w h = h
 calm-unless (why ∷ later) w h = λ q k. k
 
-pub calm-planned : (p : Pool) (c : Call) → is_calm c ≡ true → IsCalm (planned p c)
-calm-planned p c e = calm-unless (refusals p c) (plan p c) (calm-plan p c e)
+pub calm-planned : (q : Ask) (p : Pool) (c : Call) → is_calm c ≡ true → IsCalm (planned_at q p c)
+calm-planned q p c e = calm-unless (refusals_at q p c) (plan p c) (calm-plan p c e)

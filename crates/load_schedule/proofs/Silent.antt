@@ -32,7 +32,7 @@ use Rattle.tree_specs.specs.Rules.Sequence.{Work, Scene, CallStart, gives}
 use Rattle.tree_specs.specs.Rules.Answers.{freed_reply}
 use Rattle.tree_specs.specs.Rules.Pieces.{lets_go, hand_on, effect, turned, work_by}
 use Rattle.tree_specs.specs.Rules.Story.{unlink, release, given, free, dooming, leave, children, tried, asked, acting, reaching, taking, finishing, notifying, receiving, cancelling, announcing, telling, turns, outcome, story, items}
-use Rattle.tree_specs.specs.Calls.Plans.{Plan, planned, notice_of}
+use Rattle.tree_specs.specs.Calls.Plans.{Plan, planned_at, notice_of}
 use Rattle.tree_specs.specs.Calls.Plans.Plan.{Does, Frees, Unlinks}
 use Rattle.tree_specs.specs.Texts.Schedule.{open_question}
 use Rattle.tree_specs.proofs.Tree.Numbered.{by_test}
@@ -176,7 +176,7 @@ silent (suc n) = record {
   hands = hands-more n (silent n);
 }
 
-effect-silent : (n : ℕ) (w : Plan) (reach : Ask → Work Reply) (turn : Work Reply) (work : Errand → Obj → Work Reply) → IsCalm w → IsSilent (effect (free n) (unlink n) (children n) reach turn work w)
+effect-silent : (n : ℕ) (w : Plan) (reach : Ask → Work Reply) (turn : Obj → Work Reply) (work : Errand → Obj → Work Reply) → IsCalm w → IsSilent (effect (free n) (unlink n) (children n) reach turn work w)
 effect-silent n (Does c notice r) reach turn work calm p is h = (calm p h, refl)
 effect-silent n (Frees x) reach turn work calm p is h = followed-stays is (free n x p is) (λ answer. gives (freed_reply x answer)) ((silent n).frees x p is h) (λ answer q left k. (k, refl))
 effect-silent n (Unlinks o x) reach turn work calm p is h = followed-stays is (unlink n o x p is) (λ answer. gives (freed_reply x answer)) ((silent n).unlinks o x p is h) (λ answer q left k. (k, refl))
@@ -231,21 +231,21 @@ asks-more n ih p (inputs.Call c ∷ is) h a = rw a.0 (tell-awaits _ (acting n Qu
 asks-more n ih p (_ ∷ is) h a = absurd a
 
 acts-more : (n : ℕ) → AwaitsAt n → (c : Call) → is_calm c ≡ true → (p : Pool) (is : List Input) → IsBare p → AreCalls is → AwaitsCall (acting (suc n) Quiet c p is)
-acts-more n ih c e p is h a = each (notice_of (planned p c)) refl
+acts-more n ih c e p is h a = each (notice_of (planned_at Quiet p c)) refl
   where
-    turn : Work Reply
+    turn : Obj → Work Reply
     turn = turned Quiet (taking n)
 
     work : Errand → Obj → Work Reply
     work = work_by (finishing n) (notifying n) (receiving n) (cancelling n)
 
     done : Work Reply
-    done = effect (free n) (unlink n) (children n) (reaching n) turn work (planned p c)
+    done = effect (free n) (unlink n) (children n) (reaching n) turn work (planned_at Quiet p c)
 
     does : Stays is (done p is)
-    does = effect-silent n (planned p c) (reaching n) turn work (calm-planned p c e) p is h
+    does = effect-silent n (planned_at Quiet p c) (reaching n) turn work (calm-planned Quiet p c e) p is h
 
-    each : (notice : Option Notice) → notice_of (planned p c) ≡ notice → AwaitsCall (acting (suc n) Quiet c p is)
+    each : (notice : Option Notice) → notice_of (planned_at Quiet p c) ≡ notice → AwaitsCall (acting (suc n) Quiet c p is)
     each None k = rw k (followed-awaits is (done p is) (λ r. telling n (Some (record { call = c; start = p })) Quiet r) does (λ r q u. ih.tells _ r q is u a))
     each (Some notice) k = rw k (followed-awaits is (done p is) (λ r. announcing n (Some (record { call = c; start = p })) Quiet notice r) does (λ r q u. ih.announces _ notice r q is u a))
 

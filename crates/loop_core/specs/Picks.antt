@@ -1,5 +1,6 @@
--- What an event loop does next: what comes soon goes first, then a time that has come, and then it waits.
+-- What a turn of a context does next, by what waits in it: what comes soon goes first, then a time that has come, and then it waits.
 use Rattle.std.specs.Prelude.{ℕ, ◌-◌, Bool, true, false, nat_eq, nat_le, List, [], ◌∷◌, Option, Some, None, if◌then◌else◌}
+use Rattle.tree_specs.specs.declared.coming.Coming.{Coming}
 use Rattle.tree_specs.specs.declared.due.Due.{Due}
 use Rattle.tree_specs.specs.declared.object.Obj.{Obj}
 use Rattle.tree_specs.specs.declared.wants.Want.{Want}
@@ -15,9 +16,9 @@ abbrev pub time_pick : List Due → Pick
 time_pick [] = AskWait wait_limit
 time_pick (d ∷ ds) = if nat_eq d.time 0 then Time d.object 0 else AskClock
 
-abbrev pub begin_pick : List Obj → List Due → Pick
+abbrev pub begin_pick : List Coming → List Due → Pick
 begin_pick [] dues = time_pick dues
-begin_pick (x ∷ xs) dues = Soon x
+begin_pick (y ∷ ys) dues = Soon y.object
 
 -- the first time hasn't come yet: it is waited for it, but once only
 abbrev pub early_pick : Bool → ℕ → Pick
@@ -40,7 +41,7 @@ ready_pick [] (d ∷ ds) ring = AskClock
 ready_pick ready dues ring = watch_pick (first_ready ring ready)
 
 -- what was picked comes no more
-abbrev pub soon_after : Pick → List Obj → List Obj
+abbrev pub soon_after : Pick → List Coming → List Coming
 soon_after (Soon x) soon = unscheduled soon x
 soon_after pick soon = soon
 

@@ -21,7 +21,7 @@ row-bare : (rs : List Row) (y : Obj) → row_of (map bare rs) y ≡ option_map b
 row-bare [] y = refl
 row-bare (r ∷ rs) y = by_test (same r.serial y) (λ t. rw t refl) (λ t. rw t (row-bare rs y))
 
-rows-same : (rs rs' : List Row) → SameRows rs rs' → (y : Obj) → option_map bare (row_of rs' y) ≡ option_map bare (row_of rs y)
+pub rows-same : (rs rs' : List Row) → SameRows rs rs' → (y : Obj) → option_map bare (row_of rs' y) ≡ option_map bare (row_of rs y)
 rows-same rs rs' e y = sym (row-bare rs' y) ∙ ap (λ (qs : List Row). row_of qs y) e ∙ row-bare rs y
 
 owner-bare : (o : Option Row) → owner_in (option_map bare o) ≡ owner_in o

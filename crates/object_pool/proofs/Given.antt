@@ -12,11 +12,12 @@ use Rattle.tree_specs.specs.declared.free_step.FreeStep.{FreeStep}
 use Rattle.tree_specs.specs.declared.free_step.FreeStep.TheVariants.{Dropped, Doom, Left, Gone}
 use Rattle.tree_specs.specs.declared.object.Obj.{Obj}
 use Rattle.tree_specs.specs.declared.request.Note.{Note}
+use Rattle.tree_specs.specs.declared.row.Row.{Row}
 use Rattle.tree_specs.specs.declared.watch.Watch.{Watch}
 use Rattle.tree_specs.specs.Events.Pending.{armed, comes_before, disarmed, is_numbered, put_in}
 use Rattle.tree_specs.specs.Events.Queues.{Queues, running_of, has_queue, run_as}
 use Rattle.tree_specs.specs.Events.Requests.{Notes, note_of, renoted}
-use Rattle.tree_specs.specs.Events.Rotation.{behind_all, is_watching, rewatched, turned_back, unwatched, watch_of}
+use Rattle.tree_specs.specs.Events.Rotation.{behind_all, is_watching, lost, rewatched, ring_in, ring_without, turned_back, unwatched, watch_of}
 use Rattle.tree_specs.specs.Words.Objects.{same}
 use Rattle.tree_specs.proofs.Tree.Numbered.{by_test}
 use Rattle.loop_core.specs.declared.pick.Pick.{Pick}
@@ -40,6 +41,10 @@ module _ {A : Type 0} (number : A → ℕ) where
   pub before-pushed : (n : ℕ) (xs : List A) (x : A) → number x < n → AllBefore number n xs → AllBefore number n (xs ++ x ∷ [])
   before-pushed n [] x l a = (l, tt)
   before-pushed n (y ∷ ys) x l a = (a.0, before-pushed n ys x l a.1)
+
+  before-joined : (n : ℕ) (xs ys : List A) → AllBefore number n xs → AllBefore number n ys → AllBefore number n (xs ++ ys)
+  before-joined n [] ys a b = b
+  before-joined n (x ∷ xs) ys a b = (a.0, before-joined n xs ys a.1 b)
 
   before-mapped : (n : ℕ) (f : A → A) (xs : List A) → ((x : A) → number (f x) ≡ number x) → AllBefore number n xs → AllBefore number n (map f xs)
   before-mapped n f [] k a = tt
@@ -71,8 +76,8 @@ before-put_in n d (e ∷ es) l a = by_test (comes_before d e)
 pub times-gone : (n : ℕ) (ds : List Due) (x : Obj) → AllBefore due_number n ds → AllBefore due_number n (disarmed ds x)
 times-gone n ds x a = before-filtered due_number n _ ds a
 
-pub times-armed : (n : ℕ) (ds : List Due) (x : Obj) (time number : ℕ) → number < n → AllBefore due_number n ds → AllBefore due_number n (armed ds x time number)
-times-armed n ds x time number l a = before-put_in n (record { time = time; number = number; object = x }) (disarmed ds x) l (times-gone n ds x a)
+pub times-armed : (n : ℕ) (ds : List Due) (x : Obj) (time number : ℕ) (c : Obj) → number < n → AllBefore due_number n ds → AllBefore due_number n (armed ds x time number c)
+times-armed n ds x time number c l a = before-put_in n (record { time = time; number = number; object = x; context = c }) (disarmed ds x) l (times-gone n ds x a)
 
 pub unnumbered : (n : ℕ) (ds : List Due) (x : Obj) → AllBefore due_number n ds → is_numbered (disarmed ds x) n ≡ false
 unnumbered n ds x a = let none = none-numbered due_number n (disarmed ds x) (times-gone n ds x a) in rw none refl
@@ -151,10 +156,16 @@ given-later n m u le a = record {
   entries = before-later key_number n m u.queues.entries le a.entries;
 }
 
-gone-given : (n : ℕ) (u : Upcoming) (x : Obj) → AreGiven n u → AreGiven n (without_event x u)
-gone-given n u x a = record {
-  times = times-gone n u.times x a.times;
-  ring = before-filtered watcher_number n _ u.ring a.ring;
+-- the events of a context are lost
+ring-lost : (n : ℕ) (ws : List Watch) (c : Obj) → AllBefore watcher_number n ws → AllBefore watcher_number n (ring_without ws c)
+ring-lost n ws c a =
+    before-joined watcher_number n _ _ (before-filtered watcher_number n _ ws a)
+    (before-mapped watcher_number n lost (ring_in ws c) (λ w. refl) (before-filtered watcher_number n _ ws a))
+
+gone-given : (n : ℕ) (rs : List Row) (u : Upcoming) (x : Obj) → AreGiven n u → AreGiven n (without_event rs x u)
+gone-given n rs u x a = record {
+  times = before-filtered due_number n _ (disarmed u.times x) (times-gone n u.times x a.times);
+  ring = ring-lost n (unwatched u.ring x) x (before-filtered watcher_number n _ u.ring a.ring);
   requests = a.requests;
   queues = a.queues;
   entries = before-filtered key_number n _ u.queues.entries a.entries;
@@ -169,12 +180,12 @@ forgotten-given n u x a = record {
   entries = a.entries;
 }
 
-pub told-given : (n : ℕ) (u : Upcoming) (told : FreeStep) → AreGiven n u → AreGiven n (after (Some told) u)
-told-given n u (Left x from) a = gone-given n u x a
-told-given n u (Doom x) a = gone-given n u x a
-told-given n u (Gone x h) a = forgotten-given n u x a
-told-given n u (Dropped r target) a = forgotten-given n u r a
-told-given n u _ a = a
+pub told-given : (n : ℕ) (rs : List Row) (u : Upcoming) (told : FreeStep) → AreGiven n u → AreGiven n (after rs (Some told) u)
+told-given n rs u (Left x from) a = gone-given n rs u x a
+told-given n rs u (Doom x) a = gone-given n rs u x a
+told-given n rs u (Gone x h) a = forgotten-given n u x a
+told-given n rs u (Dropped r target) a = forgotten-given n u r a
+told-given n rs u _ a = a
 
 pub picked-given : (n : ℕ) (u : Upcoming) (pick : Pick) → AreGiven n u → AreGiven n (picked pick u)
 picked-given n u (Time x now) a = record { times = times-gone n u.times x a.times; ring = a.ring; requests = a.requests; queues = a.queues; entries = a.entries }

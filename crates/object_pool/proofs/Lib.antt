@@ -1,5 +1,7 @@
 pub mod Marks
 pub mod Counted
+pub mod Hosted
+pub mod Lists
 pub mod Told
 pub mod Fields
 pub mod Keeping
@@ -9,5 +11,6 @@ pub mod Given
 pub mod Fewer
 pub mod Requesting
 pub mod Queueing
+pub mod Onward
 pub mod Opening
 pub mod Announcing

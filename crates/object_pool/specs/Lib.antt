@@ -4,3 +4,4 @@ pub mod Objects
 pub mod Agreeing
 pub mod Requests
 pub mod Queueing
+pub mod Hosting

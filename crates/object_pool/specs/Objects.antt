@@ -1,5 +1,5 @@
 -- Objects as their callers see them, and what is kept of them.
-use Rattle.std.specs.Prelude.{◌≡◌, true, false, ◌+◌, ◌^◌, ◌<◌, ◌≤◌, ◌⊎◌, Bool, List, length, slice_get, Option, Some}
+use Rattle.std.specs.Prelude.{◌≡◌, true, false, ◌+◌, ◌^◌, ◌<◌, ◌≤◌, ◌⊎◌, Bool, List, length, slice_get, Option, Some, None}
 use Rattle.tree_specs.specs.declared.frame.FreeFrame.{FreeFrame}
 use Rattle.tree_specs.specs.declared.object.Obj.{Obj}
 use Rattle.tree_specs.specs.declared.object.Owner.{Owner}
@@ -25,9 +25,14 @@ LeavesRest old new = new ≡ record old { pool = new.pool; works = new.works; re
 abbrev pub frees_in : Objects → OpenFrees
 frees_in o = record { works = o.works; pool = o.pool }
 
--- the memory for a call is taken, or the innermost free waits until its request was received, or its queue has no entries
+-- no free is open, or the innermost one waits until its request was received, or its queue has no entries
+abbrev pub MayFreeOn : Option FreeFrame → Type 0
+MayFreeOn None = Unit {0}
+MayFreeOn innermost = IsPreparing innermost
+
+-- the memory for a call is taken, or that for the works of a free is there
 abbrev pub MayBeginFree : Objects → Type 0
-MayBeginFree o = (o.ready ≡ true) ⊎ IsPreparing (slice_get o.works 0)
+MayBeginFree o = (o.ready ≡ true) ⊎ MayFreeOn (slice_get o.works 0)
 
 -- by the parts
 abbrev pub objects_of : Option FreeFrame → Links → Upcoming → Bool → Objects

@@ -5,8 +5,8 @@ use Rattle.tree_specs.specs.Events.Requests.{Notes, is_unreceived}
 use Rattle.std.specs.Prelude.{Option, Some, None, false}
 use Rattle.tree_specs.specs.declared.handler.Handler.{Handler}
 use Rattle.tree_specs.specs.declared.object.Obj.{Obj}
-use Rattle.tree_specs.specs.Events.Requests.{cleaned, not_deferring}
-use Rattle.tree_specs.specs.Tree.Pool.{Pool, renote, schedule}
+use Rattle.tree_specs.specs.Events.Requests.{cleaned}
+use Rattle.tree_specs.specs.Tree.Pool.{Pool, renote, schedule_deferred}
 use Rattle.requests.specs.declared.requests.Notify.{Notify}
 use Rattle.requests.specs.declared.requests.Notify.TheVariants.{Post}
 use Rattle.object_pool.specs.Objects.{Objects}
@@ -18,7 +18,7 @@ cleaning x (Some handler) p = renote p x cleaned
 
 -- a request whose callback is deferred comes soon, which uses up the memory for a call
 abbrev pub notifying : Obj → Notify → Objects → Objects
-notifying x Post o = record o { pool = schedule (renote o.pool x not_deferring) x; ready = false }
+notifying x (Post c) o = record o { pool = schedule_deferred o.pool x c; ready = false }
 notifying x notify o = o
 
 -- how many requests are still to be received

@@ -1,7 +1,7 @@
 //! The memory for one more of what a call may add, taken where it isn't there yet.
 ghost use Rattle.std.specs.Prelude.{◌≡◌, ◌<◌, ◌≤◌, true, OnOk};
 ghost use Rattle.object_pool.specs.Objects.{MayWait};
-ghost use Rattle.object_pool.specs.Upcoming.{KeepsPlaces};
+ghost use Rattle.object_pool.specs.Upcoming.{KeepsPlaces, KeepsContexts};
 
 use crate::events::Events;
 use memory_limits::Sums;
@@ -28,11 +28,27 @@ pub fn want_limit(is_there: bool, sums: &mut Sums) -> Result<(), Memory>
     if is_there { Ok(()) } else { sums.reserve(1) }
 }
 
+/// Takes the memory for one more context, where it isn't there yet.
+pub fn want_context(is_there: bool, events: &mut Events) -> Result<(), Memory>
+    requires { is_there ≡ true → 0 < events.old.contexts_spare }
+    ensures upcoming { events.new.upcoming ≡ events.old.upcoming }
+    ensures kept { KeepsPlaces events.old events.new }
+    ensures contexts { KeepsContexts events.old events.new }
+    ensures spare { OnOk result (0 < events.new.contexts_spare) }
+{
+    if is_there {
+        Ok(())
+    } else {
+        events.reserve_context()
+    }
+}
+
 /// Takes the memory for one more object that waits for an event, with what it waits for, where it isn't there yet.
 pub fn want_event(is_there: bool, events: &mut Events) -> Result<(), Memory>
     requires { is_there ≡ true → MayWait events.old }
     ensures upcoming { events.new.upcoming ≡ events.old.upcoming }
     ensures kept { KeepsPlaces events.old events.new }
+    ensures contexts { KeepsContexts events.old events.new }
     ensures waits { OnOk result (MayWait events.new) }
 {
     if is_there { Ok(()) } else { events.reserve() }

@@ -8,7 +8,7 @@
 //! the limits are told of each change).
 use crate::counting::{add_row, count_added, count_went};
 use crate::events::Events;
-use crate::places::{want_event, want_limit, want_reference};
+use crate::places::{want_context, want_event, want_limit, want_reference};
 use destructors::FreeEngine;
 use memory_limits::Sums;
 use references::{Refs, refer};
@@ -19,6 +19,7 @@ use tree_report::{count, rows, total};
 use tree_specs::{Kind, Memory, Name, Obj, Owner, Refusal, ReportRows, Row};
 
 mod freeing;
+mod hosting;
 mod queueing;
 mod requesting;
 mod turning;
@@ -45,6 +46,8 @@ pub struct ObjectPool {
     /// Whether the memory for one more event that is to come, one more descriptor, one more request, one more queue and
     /// one more entry is taken.
     event: bool,
+    /// Whether the memory for one more context is taken.
+    context: bool,
     /// Whether the memory for one call is taken.
     ready: bool,
 }
@@ -67,7 +70,7 @@ impl ObjectPool {
     ghost use Rattle.std.specs.Option.{option_copied};
     ghost use Rattle.tree_specs.specs.declared.object.Owner.TheVariants.{Of as At};
     ghost use Rattle.tree_specs.specs.Tree.Pool.{empty, row_of, is_row, is_owner, is_below, is_inside as is_inside_of, owner_of, newest_ref_of, add as added, place as placed, rename as renamed, set_hook as hooked, set_size as sized, set_limit as limited};
-    ghost use Rattle.tree_specs.specs.Tree.Targets.{newest_ref, target_of};
+    ghost use Rattle.tree_specs.specs.Tree.Targets.{newest_ref, target_of, is_context};
     ghost use Rattle.tree_specs.specs.Calls.Plans.{refer as referred, reparented};
     ghost use Rattle.tree_specs.specs.Calls.Refusals.{checked, row_limit, size_limit, is_plain_row, fits as fitting};
     ghost use Rattle.tree_specs.specs.Tree.Sums.{size_at, sum_inside};
@@ -92,6 +95,7 @@ impl ObjectPool {
             reference: false,
             limit: false,
             event: false,
+            context: false,
             ready: false,
         })
     }
@@ -121,16 +125,19 @@ impl ObjectPool {
         self.limit = true;
         want_event(self.event, &mut self.events)?;
         self.event = true;
+        want_context(self.context, &mut self.events)?;
+        self.context = true;
         self.tree.reserve(2)?;
         self.ready = true;
         Ok(())
     }
 
-    /// Adds an object of a kind other than a reference as the newest child of an owner, and gives its number.
+    /// Adds an object of a kind other than a reference or a context as the newest child of an owner, and gives its number.
     #[inline(always)]
     pub fn add(&mut self, kind: Kind, name: Name, size: u64, owner: Owner) -> Obj
         requires ready { self.old.ready ≡ true }
         requires object { target_of kind ≡ None }
+        requires no_context { is_context kind ≡ false }
         requires few { length self.old.pool.rows < row_limit }
         requires small { size < size_limit }
         requires numbered { self.old.pool.next < 2 ^ 64 - 1 }

@@ -10,7 +10,7 @@ use Rattle.std.specs.FinMap.Entries.{find, put, is_sorted, find-put, find-where_
 use Rattle.pool_arena.proofs.Keeps.{ties}
 use Rattle.tree_specs.specs.declared.object.Obj.{Obj}
 use Rattle.tree_specs.specs.declared.queue.QueueEntry.{QueueEntry}
-use Rattle.tree_specs.specs.Events.Queues.{Queues, Head, head_of, has_entries, has_queue, running_of, with_queue, without_queue, run_as, next_of, runs, untriggered, triggered, triggered_entry}
+use Rattle.tree_specs.specs.Events.Queues.{Queues, Head, head_of, has_entries, has_queue, running_of, with_queue, without_queue, entry_of, run_as, next_of, runs, untriggered, triggered, triggered_entry}
 use Rattle.linked_lanes.specs.declared.Link.{Link}
 use Rattle.linked_lanes.specs.Lane.{first}
 use Rattle.linked_lanes.specs.Chain.{Chain, noted}
@@ -19,7 +19,7 @@ use Rattle.linked_lanes.proofs.Chains.{kept_chain}
 use Rattle.linked_lanes.proofs.Ends.{no-last}
 use Rattle.request_queue.specs.declared.line.Line.{Line}
 use Rattle.request_queue.specs.declared.node.Node.{Node}
-use Rattle.request_queue.specs.Register.{object_of, turn_of}
+use Rattle.request_queue.specs.Register.{coming_for, coming_of, object_of, turn_of}
 use Rattle.request_queue.specs.Linked.{numbered, running_in, oldest_in, length_in, entry_in, sides_of, queues_in, lane, turn_in, run_by, with_link, begun, waiting_at, waiting_first, next_in, Ends, ends_in, ends_of, AreLinked, IsLinked}
 use Rattle.request_queue.proofs.Listing.{found-listed, sorted-listed, same-listed}
 use Rattle.request_queue.proofs.Lanes.{few-lane, last-lane, head-found, lane-changed}
@@ -204,6 +204,27 @@ next-is qs q x e = by_test (runs qs q)
     go t (Some h) is e = by_test h.entry.triggered
         (λ u. let bad : None ≡ Some x = rw u at e in cc)
         (λ u. let e' : Some h.object ≡ Some x = rw u at e in record { entry = h; next = rw (t, is, u) refl; head = is; object = cc })
+
+-- a queue comes in the context of the entry whose trigger may begin
+pub coming-is : (qs : Queues) (q x : Obj) (e : QueueEntry) → T (is_sorted nat_cmp qs.entries) → option_map object_of (next_of qs q) ≡ Some x → entry_of qs x ≡ Some e
+    → Some (record { object = q; context = e.trigger.context }) ≡ coming_of qs q
+coming-is qs q x e sorted is found =
+    let n = next-is qs q x is in
+    let at : entry_of qs x ≡ Some n.entry.entry = subst (λ (y : Obj). entry_of qs y ≡ Some n.entry.entry) n.object (head-found qs.entries q n.entry sorted n.head) in
+    let both : Some e ≡ Some n.entry.entry = sym found ∙ at in
+    let same_one : e ≡ n.entry.entry = cc in
+    ap (λ (w : QueueEntry). Some (record { object = q; context = w.trigger.context })) same_one ∙ sym (ap (option_map (coming_for q)) n.next)
+
+pub next-entered : {A : Type 0} (qs : Queues) (q x : Obj) → T (is_sorted nat_cmp qs.entries) → option_map object_of (next_of qs q) ≡ Some x → entry_of qs x ≡ None → A
+next-entered qs q x sorted is none =
+    let n = next-is qs q x is in
+    let at : entry_of qs x ≡ Some n.entry.entry = subst (λ (y : Obj). entry_of qs y ≡ Some n.entry.entry) n.object (head-found qs.entries q n.entry sorted n.head) in
+    let bad : None ≡ Some n.entry.entry = sym none ∙ at in
+    cc
+
+pub none-comes : (q : Obj) (o : Option Head) → None ≡ option_map object_of o → None ≡ option_map (coming_for q) o
+none-comes q None e = refl
+none-comes q (Some h) e = cc
 
 module _ (L : ℕ → Option Line) (N : ℕ → Option Node) (qs : Queues) (k : Keeps L N qs) (q : Obj) where
   oldest-is : oldest_in (L q.0) ≡ option_map (λ (h : Head). h.object.0) (head_of qs q)

@@ -1,5 +1,9 @@
 -- Queues as their callers see them.
-use Rattle.std.specs.Prelude.{ℕ, ◌<◌, Bool, true, not, ◌&&◌, is_some, List, [], ◌∷◌, Option, Some, None, if◌then◌else◌}
+use Rattle.std.specs.Prelude.{ℕ, T, ◌<◌, true, List, [], ◌∷◌, Option, Some, None, if◌then◌else◌}
+use Rattle.std.specs.Option.{option_map}
+use Rattle.std.specs.Ordering.{nat_cmp}
+use Rattle.std.specs.FinMap.Entries.{is_sorted}
+use Rattle.tree_specs.specs.declared.coming.Coming.{Coming}
 use Rattle.tree_specs.specs.declared.object.Obj.{Obj}
 use Rattle.tree_specs.specs.declared.queue.QueueEntry.{QueueEntry}
 use Rattle.tree_specs.specs.Events.Queues.{Queues, Head, runs, next_of, triggered, run_as}
@@ -10,19 +14,31 @@ pub record Register : Type 0 where
   -- so many queues and so many entries can be added without taking memory
   pub spare : ℕ
 
+-- the entries stand in the order of their numbers
+abbrev pub AreInOrder : List (ℕ × QueueEntry) → Type 0
+AreInOrder entries = T (is_sorted nat_cmp entries)
+
 -- its number is above that of each entry
 abbrev pub IsAbove : Obj → List (ℕ × QueueEntry) → Type 0
 IsAbove x [] = Unit {0}
 IsAbove x (e ∷ es) = (e.0 < x.0) × IsAbove x es
 
--- the queue that an entry leaves, where its next one is to be triggered
-abbrev pub looked_for : Queues → Option QueueEntry → Option Obj
-looked_for left None = None
-looked_for left (Some e) = if is_some (next_of left e.queue) then Some e.queue else None
+-- a queue comes in the context of its first entry
+abbrev pub coming_for : Obj → Head → Coming
+coming_for q h = record { object = q; context = h.entry.trigger.context }
 
--- a queue that didn't run starts, and its first entry is to be triggered
-abbrev pub starts_next : Queues → Obj → Bool
-starts_next qs q = not (runs qs q) && is_some (next_of (run_as qs q true) q)
+-- a queue is to come soon, where it runs and its first entry waits for its trigger
+abbrev pub coming_of : Queues → Obj → Option Coming
+coming_of qs q = option_map (coming_for q) (next_of qs q)
+
+-- so is the queue that an entry leaves
+abbrev pub looked_for : Queues → Option QueueEntry → Option Coming
+looked_for left None = None
+looked_for left (Some e) = coming_of left e.queue
+
+-- and a queue that didn't run and starts
+abbrev pub starts_next : Queues → Obj → Option Coming
+starts_next qs q = if runs qs q then None else coming_of (run_as qs q true) q
 
 -- a queue runs from now on; one that does already stays as it is
 abbrev pub started : Queues → Obj → Queues

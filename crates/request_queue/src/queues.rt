@@ -16,7 +16,7 @@ use linked_lanes::{Link, Sides};
 use pool_arena::Arena;
 use std::alloc::Global;
 use std::marker::Model;
-use tree_specs::{Handler, Memory, Obj, QueueEntry};
+use tree_specs::{Coming, Handler, Memory, Obj, QueueEntry};
 
 /// All queues, and the entries in them, each found in the same time however many there are. Contracts see them by their
 /// numbers, and spare: so many queues and so many entries can be added without taking memory. Only `reserve` takes
@@ -78,7 +78,7 @@ impl Queues {
     ghost use Rattle.std.specs.Prelude.{◌+◌, ◌<◌, ◌≤◌, OnOk, Bool, None, true, false, is_some, length};
     ghost use Rattle.tree_specs.specs.Events.Queues.{no_queues, running_of, has_queue, with_queue, run_as, without_queue, entry_of, with_entry, without_entry, new_entry, length_of, head_of, has_entries, next_of};
     ghost use Rattle.request_queue.specs.Linked.{queue_of};
-    ghost use Rattle.request_queue.specs.Register.{IsAbove, looked_for, starts_next, started, object_of, turn_of, triggered_by};
+    ghost use Rattle.request_queue.specs.Register.{AreInOrder, IsAbove, coming_of, looked_for, starts_next, started, object_of, turn_of, triggered_by};
 
     /// No queues.
     pub fn new(alloc: Global) -> Queues
@@ -120,13 +120,13 @@ impl Queues {
     }
 
     /// Adds an entry to a queue, behind all others (`tevent_queue_add_entry`); its number is above those of all
-    /// entries. Answers whether the queue runs and its first entry waits for its trigger, so that the queue is to come
-    /// soon.
-    pub fn add_entry(&mut self, q: Obj, e: Obj, request: Obj, trigger: Handler) -> bool
+    /// entries. Answers the queue with the context of its first entry, where it runs and this entry waits for its trigger,
+    /// so that the queue is to come soon.
+    pub fn add_entry(&mut self, q: Obj, e: Obj, request: Obj, trigger: Handler) -> Option<Coming>
         requires queue { has_queue self.old.queues q ≡ true }
         requires newest { IsAbove e self.old.queues.entries }
         requires room { 0 < self.old.spare }
-        ensures result { result ≡ is_some (next_of self.new.queues q) }
+        ensures result { result ≡ coming_of self.new.queues q }
         ensures queues { self.new.queues ≡ with_entry self.old.queues e (new_entry q request trigger) }
         ensures spare { self.old.spare ≤ self.new.spare + 1 }
     {
@@ -137,7 +137,7 @@ impl Queues {
             triggered: false,
         };
         self.put_in(e, entry);
-        self.waits(q)
+        self.coming(q)
     }
 
     /// Puts a new entry into its queue, behind all others.
@@ -170,15 +170,15 @@ impl Queues {
         Some(entry.queue)
     }
 
-    /// Takes an entry out of its queue. Nothing changes where it is none. Answers the queue, where it runs and its
-    /// first entry then waits for its trigger, so that the queue is to come soon.
-    pub fn remove_entry(&mut self, e: Obj) -> Option<Obj>
+    /// Takes an entry out of its queue. Nothing changes where it is none. Answers the queue with the context of its first
+    /// entry then, where it runs and this entry waits for its trigger, so that the queue is to come soon.
+    pub fn remove_entry(&mut self, e: Obj) -> Option<Coming>
         ensures result { result ≡ looked_for self.new.queues (entry_of self.old.queues e) }
         ensures queues { self.new.queues ≡ without_entry self.old.queues e }
         ensures spare { self.old.spare ≤ self.new.spare }
     {
         let queue = self.take_out(e)?;
-        if self.waits(queue) { Some(queue) } else { None }
+        self.coming(queue)
     }
 
     /// Sets whether a queue runs. Nothing changes where it is none.
@@ -189,18 +189,19 @@ impl Queues {
         set_running(&mut self.lines, q.0, running);
     }
 
-    /// Starts a queue (`tevent_queue_start`). Nothing changes where it runs already, or is none. Answers whether it
-    /// didn't run and its first entry waits for its trigger, so that the queue is to come soon.
-    pub fn start(&mut self, q: Obj) -> bool
+    /// Starts a queue (`tevent_queue_start`). Nothing changes where it runs already, or is none. Answers the queue with the
+    /// context of its first entry, where it didn't run and this entry waits for its trigger, so that the queue is to come
+    /// soon.
+    pub fn start(&mut self, q: Obj) -> Option<Coming>
         ensures result { result ≡ starts_next self.old.queues q }
         ensures queues { self.new.queues ≡ started self.old.queues q }
         ensures spare { self.new.spare ≡ self.old.spare }
     {
         if self.running(q) == Some(true) {
-            return false;
+            return None;
         }
         self.run(q, true);
-        self.waits(q)
+        self.coming(q)
     }
 
     /// Stops a queue (`tevent_queue_stop`). Nothing changes where it is none.
@@ -220,7 +221,8 @@ impl Queues {
 
     /// The first entry of a queue that runs, where its trigger hasn't begun. None exactly where there is no such entry.
     fn next(&self, q: Obj) -> Option<Obj>
-        ensures { result ≡ option_map object_of (next_of self.now.queues q) }
+        ensures next { result ≡ option_map object_of (next_of self.now.queues q) }
+        ensures order { AreInOrder self.now.queues.entries }
     {
         obj(next_in(&self.lines, &self.nodes, q.0))
     }
@@ -230,6 +232,19 @@ impl Queues {
         ensures { result ≡ is_some (next_of self.now.queues q) }
     {
         self.next(q).is_some()
+    }
+
+    /// A queue with the context of its first entry, where the queue runs and this entry waits for its trigger. None exactly
+    /// where there is no such entry.
+    pub fn coming(&self, q: Obj) -> Option<Coming>
+        ensures { result ≡ coming_of self.now.queues q }
+    {
+        let first = self.next(q)?;
+        let entry = self.entry(first)?;
+        Some(Coming {
+            object: q,
+            context: entry.trigger.context,
+        })
     }
 
     /// Begins the trigger of a queue's first entry, where the queue runs and the trigger hasn't begun

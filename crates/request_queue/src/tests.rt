@@ -6,7 +6,7 @@ ghost use Rattle.request_queue.specs.Linked.{numbered};
 use crate::{Queues, Turn};
 use std::alloc::Global;
 use std::test::Fail;
-use tree_specs::{Handler, Obj};
+use tree_specs::{Coming, Handler, Obj};
 
 // No queues, with room for so many queues and entries.
 fn with_room(alloc: Global, room: usize) -> Result<Queues, Fail>
@@ -43,20 +43,29 @@ fn turn(e: u64) -> Turn {
         trigger: Handler {
             routine: 16,
             user: e,
+            context: Obj(e % 2),
         },
     }
 }
 
-// An entry with the next number comes into a queue, in room that is there. Nothing changes where it is none. Answers whether
-// the queue is to come soon.
-fn enter(queues: &mut Queues, q: Obj, e: u64) -> bool
+// The queue 1, as it comes for the entry of this number.
+fn coming(e: u64) -> Option<Coming> {
+    Some(Coming {
+        object: Obj(1),
+        context: turn(e).trigger.context,
+    })
+}
+
+// An entry with the next number comes into a queue, in room that is there. Nothing changes where it is none. Answers the
+// queue, where it is to come soon.
+fn enter(queues: &mut Queues, q: Obj, e: u64) -> Option<Coming>
     requires newest { IsAbove (numbered e) queues.old.queues.entries }
     requires room { 1 ≤ queues.old.spare }
     ensures newest { IsAbove (numbered (e + 1)) queues.new.queues.entries }
     ensures spare { queues.old.spare ≤ queues.new.spare + 1 }
 {
     if queues.running(q).is_none() {
-        return false;
+        return None;
     }
     let Turn { request, trigger } = turn(e);
     queues.add_entry(q, Obj(e), request, trigger)
@@ -88,10 +97,10 @@ fn the_first_in_is_the_first_out(rt: HostRuntime) -> Result<(), Fail> {
     let mut queues = with_three(rt.alloc())?;
     assert_eq!(rt; queues.length(Obj(1)), 3);
     assert_eq!(rt; queues.head(Obj(1)), Some(Obj(3)));
-    assert_eq!(rt; queues.remove_entry(Obj(3)), Some(Obj(1)));
+    assert_eq!(rt; queues.remove_entry(Obj(3)), coming(4));
     assert_eq!(rt; queues.remove_entry(Obj(3)), None);
     assert_eq!(rt; queues.head(Obj(1)), Some(Obj(4)));
-    assert_eq!(rt; queues.remove_entry(Obj(4)), Some(Obj(1)));
+    assert_eq!(rt; queues.remove_entry(Obj(4)), coming(5));
     assert_eq!(rt; queues.head(Obj(1)), Some(Obj(5)));
     assert_eq!(rt; queues.remove_entry(Obj(5)), None);
     assert_eq!(rt; queues.head(Obj(1)), None);
@@ -102,7 +111,7 @@ fn the_first_in_is_the_first_out(rt: HostRuntime) -> Result<(), Fail> {
 #[test]
 fn one_leaves_from_the_middle(rt: HostRuntime) -> Result<(), Fail> {
     let mut queues = with_three(rt.alloc())?;
-    assert_eq!(rt; queues.remove_entry(Obj(4)), Some(Obj(1)));
+    assert_eq!(rt; queues.remove_entry(Obj(4)), coming(3));
     assert!(rt; queues.entry(Obj(4)).is_none());
     assert_eq!(rt; queues.length(Obj(1)), 2);
     assert_eq!(rt; queues.head(Obj(1)), Some(Obj(3)));
@@ -117,17 +126,17 @@ fn one_leaves_from_the_middle(rt: HostRuntime) -> Result<(), Fail> {
 fn a_queue_is_stopped_and_started(rt: HostRuntime) -> Result<(), Fail> {
     let mut queues = with_three(rt.alloc())?;
     assert_eq!(rt; queues.running(Obj(1)), Some(true));
-    assert!(rt; !queues.start(Obj(1)));
+    assert_eq!(rt; queues.start(Obj(1)), None);
     queues.stop(Obj(1));
     assert_eq!(rt; queues.running(Obj(1)), Some(false));
     assert_eq!(rt; queues.trigger(Obj(1)), None);
     assert_eq!(rt; queues.remove_entry(Obj(3)), None);
-    assert!(rt; queues.start(Obj(1)));
-    assert!(rt; !queues.start(Obj(1)));
+    assert_eq!(rt; queues.start(Obj(1)), coming(4));
+    assert_eq!(rt; queues.start(Obj(1)), None);
     assert_eq!(rt; queues.trigger(Obj(1)), Some(turn(4)));
     queues.stop(Obj(1));
-    assert!(rt; !queues.start(Obj(1)));
-    assert!(rt; !queues.start(Obj(2)));
+    assert_eq!(rt; queues.start(Obj(1)), None);
+    assert_eq!(rt; queues.start(Obj(2)), None);
     assert_eq!(rt; queues.running(Obj(2)), None);
     Ok(())
 }
@@ -141,7 +150,7 @@ fn an_entry_is_triggered_once(rt: HostRuntime) -> Result<(), Fail> {
     assert_eq!(rt; queues.entry(Obj(3)).map(|e| e.triggered), Some(true));
     assert_eq!(rt; queues.trigger(Obj(1)), None);
     assert_eq!(rt; queues.remove_entry(Obj(5)), None);
-    assert_eq!(rt; queues.remove_entry(Obj(3)), Some(Obj(1)));
+    assert_eq!(rt; queues.remove_entry(Obj(3)), coming(4));
     assert_eq!(rt; queues.trigger(Obj(1)), Some(turn(4)));
     assert_eq!(rt; queues.trigger(Obj(1)), None);
     Ok(())

@@ -1,5 +1,5 @@
 -- The notes of requests as their callers see them.
-use Rattle.std.specs.Prelude.{ℕ, T, Option, Some, None, if◌then◌else◌}
+use Rattle.std.specs.Prelude.{ℕ, T, Option, Some, None}
 use Rattle.std.specs.Ordering.{nat_cmp}
 use Rattle.std.specs.FinMap.Entries.{is_sorted}
 use Rattle.tree_specs.specs.declared.handler.Handler.{Handler}
@@ -24,10 +24,15 @@ abbrev pub callback_runs : Option Handler → Notify
 callback_runs None = Nothing
 callback_runs (Some handler) = Run handler
 
--- what is done where a request is over: one whose callback is deferred is posted
+-- one whose callback is deferred is posted, in the context that was kept for this
+abbrev pub posts : Option Obj → Notify → Notify
+posts None notify = notify
+posts (Some c) notify = Post c
+
+-- what is done where a request is over
 abbrev pub notify_of : Option Note → Notify
 notify_of None = Nothing
-notify_of (Some n) = if n.deferred then Post else callback_runs n.callback
+notify_of (Some n) = posts n.deferred (callback_runs n.callback)
 
 -- a cleanup that is to run counts as run
 abbrev pub left_by : Option Handler → Notes → Obj → Notes
@@ -36,5 +41,5 @@ left_by (Some handler) notes x = renoted cleaned notes x
 
 -- one that was posted is deferred no more
 abbrev pub posted_by : Notify → Notes → Obj → Notes
-posted_by Post notes x = renoted not_deferring notes x
+posted_by (Post c) notes x = renoted not_deferring notes x
 posted_by notify notes x = notes

@@ -31,22 +31,26 @@ impl Model for Requests {
 /// What is done where a request is over (`tevent_req_notify_callback`).
 #[derive(Clone, Copy, Debug, PartialEq, Eq)]
 pub enum Notify {
-    /// It comes soon, and is notified then.
-    Post,
+    /// It comes soon in this context, where it can, and is notified then.
+    Post(Obj),
     /// Its callback runs.
     Run(Handler),
     /// Nobody waits for it, or it is no request.
     Nothing,
 }
 
-/// A routine with its user number, where 0 is no routine.
+/// A routine with its user number, where 0 is no routine. It runs in whatever context its request is over.
 fn handler(routine: u32, user: u64) -> Option<Handler>
     ensures { result ≡ routine_of routine user }
 {
     if routine == 0 {
         None
     } else {
-        Some(Handler { routine, user })
+        Some(Handler {
+            routine,
+            user,
+            context: Obj::first_context(),
+        })
     }
 }
 
@@ -58,7 +62,7 @@ fn new_note(child: Obj) -> Note
         state: State::InProgress,
         error: 0,
         callback: None,
-        deferred: false,
+        deferred: None,
         cleanup: 0,
         cleaned: 0,
         cancel: 0,
@@ -204,14 +208,14 @@ impl Requests {
         }
     }
 
-    /// Defers the callback of a request: when it is over it comes soon, and is notified only then
+    /// Defers the callback of a request: when it is over it comes soon in this context, and is notified only then
     /// (`tevent_req_defer_callback`).
-    pub fn defer(&mut self, x: Obj)
-        ensures notes { self.new.notes ≡ renoted deferring self.old.notes x }
+    pub fn defer(&mut self, x: Obj, context: Obj)
+        ensures notes { self.new.notes ≡ renoted (deferring context) self.old.notes x }
         ensures spare { self.new.spare ≡ self.old.spare }
     {
         if let Some(mut note) = self.note(x) {
-            note.deferred = true;
+            note.deferred = Some(context);
             self.set(x, note);
         }
     }
@@ -239,10 +243,10 @@ impl Requests {
         let Some(mut note) = self.note(x) else {
             return Notify::Nothing;
         };
-        if note.deferred {
-            note.deferred = false;
+        if let Some(context) = note.deferred {
+            note.deferred = None;
             self.set(x, note);
-            return Notify::Post;
+            return Notify::Post(context);
         }
         match note.callback {
             Some(handler) => Notify::Run(handler),

@@ -32,7 +32,11 @@ fn with_new(alloc: Global) -> Result<Requests, Fail> {
 }
 
 fn handler(routine: u32, user: u64) -> Handler {
-    Handler { routine, user }
+    Handler {
+        routine,
+        user,
+        context: Obj::first_context(),
+    }
 }
 
 #[test]
@@ -62,8 +66,8 @@ fn one_that_is_deferred_is_posted_once(rt: HostRuntime) -> Result<(), Fail> {
     let mut requests = with_new(rt.alloc())?;
     assert_eq!(rt; requests.to_notify(Obj(7)), Notify::Nothing);
     requests.set_callback(Obj(7), 16, 5);
-    requests.defer(Obj(7));
-    assert_eq!(rt; requests.to_notify(Obj(7)), Notify::Post);
+    requests.defer(Obj(7), Obj(3));
+    assert_eq!(rt; requests.to_notify(Obj(7)), Notify::Post(Obj(3)));
     assert_eq!(rt; requests.to_notify(Obj(7)), Notify::Run(handler(16, 5)));
     Ok(())
 }
@@ -88,7 +92,7 @@ fn add_all(requests: &mut Requests, count: u64)
         requests.set_cleanup(x, 17);
         requests.set_callback(x, 16, x.0);
         if x.0.is_multiple_of(2) {
-            requests.defer(x);
+            requests.defer(x, Obj::first_context());
         }
     }
 }
@@ -108,7 +112,7 @@ fn finish_all(requests: &mut Requests, count: u64) -> bool {
         let x = Obj(before + 1);
         let run = Notify::Run(handler(16, x.0));
         let told = match finish(requests, x) {
-            (true, Notify::Post) => x.0.is_multiple_of(2) && requests.to_notify(x) == run,
+            (true, Notify::Post(Obj(0))) => x.0.is_multiple_of(2) && requests.to_notify(x) == run,
             (true, notify) => notify == run,
             (false, _) => false,
         };

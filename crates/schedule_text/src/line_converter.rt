@@ -2,30 +2,11 @@
 ghost use Rattle.std.specs.Prelude.{◌≡◌, ◌++◌, cond, codes, [], OnOk, OnErr};
 ghost use Rattle.tree_specs.specs.Texts.Text.{newline};
 ghost use Rattle.tree_specs.specs.Texts.Written.{Writes};
-ghost use Rattle.text_forms.specs.Contexts.{is_in_context};
 ghost use Rattle.schedule_text.specs.Converted.{gains_context, Converts};
 
 use crate::line_reader::read_line;
-use text_forms::FormFault;
-use tree_specs::{Act, Call, Input, Memory, Version};
-
-/// Whether a call says its context in version 2.
-fn is_in_context(call: &Call) -> bool
-    ensures { result ≡ is_in_context call.now }
-{
-    matches!(
-        call,
-        Call::Schedule { .. }
-            | Call::Timer { .. }
-            | Call::Fd { .. }
-            | Call::Defer { .. }
-            | Call::Post { .. }
-            | Call::Endtime { .. }
-            | Call::Enqueue { .. }
-            | Call::Pending
-            | Call::Turn
-    )
-}
+use text_forms::{FormFault, is_in_context};
+use tree_specs::{Act, Input, Memory, Version};
 
 /// Whether the line of an input says a context in version 2 that it doesn't say in this one.
 fn gains_context(version: Version, input: Input) -> bool
@@ -65,7 +46,8 @@ fn append_line(line: &[u8], gains: bool, out: &mut Vec<u8>) -> Result<(), Memory
 /// Appends the line of version 2 that spells what a line of this version spells, the line without its LF. NoForm exactly
 /// where it spells no input in this version, unless memory ran out; nothing is appended then, and without memory.
 ///
-/// Either version has one spelling of an input, so the bytes of the line are copied.
+/// Either version has one spelling of an input, so the bytes of the line are copied. What says no context in version 1 is
+/// in the first one.
 pub fn convert_line(line: &[u8], version: Version, out: &mut Vec<u8>) -> Result<(), FormFault>
     ensures { Converts version line.now out.old.items out.new.items result }
 {

@@ -1,7 +1,6 @@
 -- A converted schedule is judged line by line as the one that it was made of: each line spells the same input.
-use Rattle.std.proofs.Common.{◌≡◌, ◌≤◌, ℕ, ◌+◌, Bool, false, true, cond, ltb, ◌||◌, List, [], ◌∷◌, ◌++◌, length, map, Option, Some, None, Result, Ok, Err, refl, sym, ap, ◌∙◌, arith}
+use Rattle.std.proofs.Common.{◌≡◌, ℕ, ◌+◌, Bool, false, true, cond, ltb, ◌||◌, List, [], ◌∷◌, ◌++◌, length, map, Option, Some, None, Err, refl, sym, ap, ◌∙◌}
 use Rattle.std.specs.Option.{option_map}
-use Rattle.std.specs.Prelude.{flat_map}
 use Rattle.std.proofs.lemmas.Bool.{le-ltb}
 use Rattle.std.proofs.lemmas.List.{append_assoc}
 use Rattle.tree_specs.specs.declared.question.Act.TheVariants as acts
@@ -13,21 +12,21 @@ use Rattle.tree_specs.specs.declared.schedule.Mode.TheVariants.{Pool, Service}
 use Rattle.tree_specs.specs.declared.schedule.Reason.{Reason}
 use Rattle.tree_specs.specs.declared.schedule.Reason.TheVariants.{Limit, Form}
 use Rattle.tree_specs.specs.declared.schedule.Version.{Version}
-use Rattle.tree_specs.specs.declared.schedule.Version.TheVariants.{One, Two}
+use Rattle.tree_specs.specs.declared.schedule.Version.TheVariants.{Two}
 use Rattle.tree_specs.specs.Rules.Items.{Item}
 use Rattle.tree_specs.specs.Texts.Grammar.{input_of}
 use Rattle.tree_specs.specs.Texts.Lines.{Line, lines, is_over_limit, line_limit, lines_limit}
-use Rattle.tree_specs.specs.Texts.Runners.{Course, Runner, Judged, once_given, fitting, ok_unless, why_not, line_input, judged_one, judged_from, judged_after, judged_lines, transcript_by, transcript_lines}
+use Rattle.tree_specs.specs.Texts.Runners.{Course, Judged, once_given, fitting, ok_unless, why_not, line_input, judged_one, judged_from, judged_after, judged_lines, transcript_by, transcript_lines}
 use Rattle.tree_specs.specs.Texts.Schedule.{header_of, header_text, runner_by, says}
 use Rattle.tree_specs.specs.Texts.Text.{newline}
 use Rattle.line_pieces.specs.Cuts.{ended_line, has_no_lf}
 use Rattle.line_pieces.proofs.LineLaws.{lines_ended}
 use Rattle.schedule_text.proofs.Inputs.{line_of, input_again, line_spelled, sound_anyway}
 use Rattle.service_rules.specs.Schedules.{runner_in, runner_of}
-use Rattle.service_records.proofs.Judging.{ArePlain, line_in, lines-of-inputs, not-over}
+use Rattle.service_records.proofs.Judging.{ArePlain, line_in, lines-of-inputs}
 use Rattle.service_records.proofs.Lines.{line-part, line-plain}
 use Rattle.schedule_versions.specs.Judging.{IsJudgedAlike}
-use Rattle.schedule_versions.specs.Conversions.{converted, converted_lines, header_at, headed, lines_text, shape, shaper, shapers}
+use Rattle.schedule_versions.specs.Conversions.{converted, converted_lines, header_at, lines_text, shape, shaper, shapers}
 
 -- ---- what the lines spell
 

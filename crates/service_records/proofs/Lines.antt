@@ -1,5 +1,5 @@
 -- The line of an input: it has no LF, and it isn't too long for a schedule.
-use Rattle.std.proofs.Common.{◌≡◌, ◌≤◌, ◌<◌, ℕ, zero, suc, ◌+◌, ◌*◌, ◌^◌, ◌/◌, ◌%◌, true, leb, ltb, ◌&&◌, List, [], ◌∷◌, ◌++◌, length, slice_index, refl, codes, ◌∙◌, arith, length-append}
+use Rattle.std.proofs.Common.{◌≡◌, ◌≤◌, ◌<◌, ℕ, zero, suc, ◌+◌, ◌*◌, ◌^◌, ◌/◌, ◌%◌, true, leb, ltb, ◌&&◌, List, [], ◌∷◌, ◌++◌, length, slice_index, refl, codes, arith, length-append}
 use Rattle.std.specs.Prelude.{flat_map}
 use Rattle.std.specs.Char.{is_ascii_digit}
 use Rattle.std.specs.Fmt.{decimal}
@@ -30,8 +30,8 @@ use Rattle.tree_specs.specs.Calls.Spelling.Field.{AnOwner, AnObject, ANumeral, A
 use Rattle.tree_specs.specs.Texts.Lines.{line_limit}
 use Rattle.tree_specs.specs.Texts.Text.{field_text, call_text, want_text, wants_text}
 use Rattle.text_forms.proofs.Bools.{and_true, list_all-weaker}
-use Rattle.text_forms.proofs.Calls.{sound_fields}
 use Rattle.text_forms.proofs.Numerals.{decimal_digits}
+use Rattle.text_forms.proofs.Sound.{sound_fields}
 use Rattle.line_pieces.specs.Cuts.{is_plain, has_no_lf}
 use Rattle.line_pieces.proofs.LineLaws.{plain_append}
 use Rattle.schedule_text.proofs.Inputs.{line_of}
@@ -117,7 +117,7 @@ field-part (AnObject x) h = longer 20 1023 (decimal x.0) (omega arith) (number-p
 field-part (ANumeral kind n) h = longer 20 1023 (decimal n) (omega arith) (number-part n (in-range kind n h))
 field-part (AName name) h = name-part name h
 field-part (SomeBytes bytes) h = octets-part bytes h
-field-part TheContext h = longer 20 1023 (decimal 0) (omega arith) (number-part 0 (omega arith))
+field-part (TheContext x) h = longer 20 1023 (decimal x.0) (omega arith) (number-part x.0 (ltb-true x.0 (2 ^ 64) h))
 
 -- the same of fields, each with a space before it
 abbrev most_of_all : List Field → ℕ
@@ -159,7 +159,7 @@ call-part c h =
     let verb : List ℕ = (spelling Two c).verb in
     let most : ℕ = most_of_all (spelling Two c).fields in
     longer (length verb + most) most_of_call (verb ++ fields_text (spelling Two c).fields) (leb-true (length verb + most) most_of_call (call-short c))
-    (together (length verb) most verb (fields_text (spelling Two c).fields) (record { plain = verb-plain c; short = omega arith }) (fields-part (spelling Two c).fields (sound_fields Two Two c ∙ h)))
+    (together (length verb) most verb (fields_text (spelling Two c).fields) (record { plain = verb-plain c; short = omega arith }) (fields-part (spelling Two c).fields (sound_fields Two Two c h)))
 
 -- ---- descriptors that are ready
 

@@ -25,7 +25,7 @@ use Rattle.tree_specs.specs.Rules.Answers.{freed_reply}
 use Rattle.tree_specs.specs.Rules.Items.Item.{Told, Asked}
 use Rattle.tree_specs.specs.Rules.Pieces.{notice_event}
 use Rattle.tree_specs.specs.Tree.Pool.{Pool, row_of}
-use Rattle.tree_specs.specs.Calls.Plans.{Plan, planned, changed_by}
+use Rattle.tree_specs.specs.Calls.Plans.{Plan, planned_at, changed_by}
 use Rattle.tree_specs.specs.Calls.Plans.Plan.{Does, Frees, Unlinks, Empties, Asks, Turns, Works}
 use Rattle.tree_specs.specs.Invariants.Awaiting.{Awaits, pool_after}
 use Rattle.tree_specs.specs.Invariants.Sound.{ValidAt}
@@ -191,7 +191,7 @@ rest-claims d p (Frees x) fs = tt
 rest-claims d p (Unlinks o x) fs = tt
 rest-claims d p (Empties x) fs = tt
 rest-claims d p (Asks q) fs = tt
-rest-claims d p Turns fs = tt
+rest-claims d p (Turns c) fs = tt
 rest-claims d p (Works change errand x) fs = errand-claims d (changed_by change p) errand x (frame.Call (Requesting ask.Quiet) ∷ fs)
 
 top-each : (P Q : Task → Type 0) → ((t : Task) → P t → Q t) → (runs : List Run) → OfTop P runs → OfTop Q runs
@@ -211,14 +211,14 @@ module _ (d : Knowledge) (p : Pool) (started : 0 < p.next) (awaits : Awaits p) (
   run-claims m (Unlinks o x) fs w = tt
   run-claims m (Empties x) fs w = tt
   run-claims m (Asks q) fs w = top-each (λ t. RunsFor m t × Well t (Asks q)) (RunsFor m) (λ t v. v.0) d.runs w
-  run-claims m Turns fs w = top-each (λ t. RunsFor m t × Well t Turns) (Replied d p (rest_of d.runs) m (reply.No refusal.Nested)) (λ t v. (v.0, v.1.0, v.1.1)) d.runs w
+  run-claims m (Turns c) fs w = top-each (λ t. RunsFor m t × Well t (Turns c)) (Replied d p (rest_of d.runs) m (reply.No refusal.Nested)) (λ t v. (v.0, v.1.0, v.1.1)) d.runs w
   run-claims m (Works change errand x) fs w = errand-claims d (changed_by change p) errand x (frame.Call (Requesting (ask.Routine m)) ∷ fs)
 
-  pub does-claims : (l : Ledger) (m : Moment) (c : Call) (fs : List Frame) → DoesCall d l p.next (ask.Routine m) c fs → OfTop (Ready d p (rest_of d.runs) m) d.runs → LeadsClaims d (plan_step (ask.Routine m) (planned p c) p) fs
-  does-claims l m c fs does claims = run-claims m (planned p c) fs (each d.runs clean.runs does.2 claims)
+  pub does-claims : (l : Ledger) (m : Moment) (c : Call) (fs : List Frame) → DoesCall d l p.next (ask.Routine m) c fs → OfTop (Ready d p (rest_of d.runs) m) d.runs → LeadsClaims d (plan_step (ask.Routine m) (planned_at (ask.Routine m) p c) p) fs
+  does-claims l m c fs does claims = run-claims m (planned_at (ask.Routine m) p c) fs (each d.runs clean.runs does.2 claims)
     where
-      each : (runs : List Run) → AllRuns (FreesClean d p.next) runs → Top (λ t. Before d l p.next t × IsCallOf d c t) (Below fs) runs → OfTop (Ready d p (rest_of d.runs) m) runs → OfTop (λ t. RunsFor m t × Well t (planned p c)) runs
-      each (Own t ∷ runs) frees top w = (w.0, call-well d p started awaits valid kids clean (rest-runs (FreesClean d p.next) d.runs clean.runs) t c w.1 frees.0 top.0.1)
+      each : (runs : List Run) → AllRuns (FreesClean d p.next) runs → Top (λ t. Before d l p.next t × IsCallOf d c t) (Below fs) runs → OfTop (Ready d p (rest_of d.runs) m) runs → OfTop (λ t. RunsFor m t × Well t (planned_at (ask.Routine m) p c)) runs
+      each (Own t ∷ runs) frees top w = (w.0, call-well d p started awaits valid kids clean (rest-runs (FreesClean d p.next) d.runs clean.runs) (ask.Routine m) t c w.1 frees.0 top.0.1)
       each [] frees top w = tt
       each (Outside ∷ runs) frees top w = tt
 

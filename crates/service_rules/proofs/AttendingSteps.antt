@@ -14,7 +14,8 @@ use Rattle.tree_specs.specs.declared.frame.OutsideFrame.TheVariants.{Reaching, O
 use Rattle.tree_specs.specs.declared.frame.Answer.TheVariants.{Returned}
 use Rattle.tree_specs.specs.Rules.Items.Item.{Told, Asked}
 use Rattle.tree_specs.specs.Tree.Pool.{Pool, open_descriptor}
-use Rattle.tree_specs.specs.Calls.Plans.{Plan, planned}
+use Rattle.tree_specs.specs.Calls.Plans.{Plan, planned_at}
+use Rattle.tree_specs.specs.Calls.Plans.Change.{Enter}
 use Rattle.tree_specs.specs.Calls.Plans.Plan.{Does, Frees, Unlinks, Empties, Asks, Turns, Works}
 use Rattle.tree_specs.specs.Invariants.Awaiting.{pool_after}
 use Rattle.tree_specs.specs.Invariants.Consistent.{IsConsistent}
@@ -48,8 +49,8 @@ plan-asks q (Frees x) p = tt
 plan-asks q (Unlinks o x) p = tt
 plan-asks q (Empties x) p = tt
 plan-asks q (Asks o) p = tt
-plan-asks ask.Quiet Turns p = tt
-plan-asks _ Turns p = tt
+plan-asks ask.Quiet (Turns c) p = tt
+plan-asks _ (Turns c) p = tt
 plan-asks q (Works change errand x) p = tt
 
 plan-rises : (q : Ask) (plan : Plan) (p : Pool) → p.next ≤ (pool_after (plan_step q plan p)).next
@@ -59,8 +60,8 @@ plan-rises q (Frees x) p = omega arith
 plan-rises q (Unlinks o x) p = omega arith
 plan-rises q (Empties x) p = omega arith
 plan-rises q (Asks o) p = omega arith
-plan-rises ask.Quiet Turns p = omega arith
-plan-rises _ Turns p = omega arith
+plan-rises ask.Quiet (Turns c) p = next-rises (Enter c) p
+plan-rises _ (Turns c) p = omega arith
 plan-rises q (Works change errand x) p = next-rises change p
 
 module _ (d : Knowledge) (l : Ledger) (fs : List Frame) (p : Pool) where
@@ -83,8 +84,8 @@ module _ (d : Knowledge) (l : Ledger) (fs : List Frame) (p : Pool) where
 
   resting-spares : (e k : Obj) (fd : ℕ) (c : Call) → IsResting d l p.next c → SparesCall e k fd c
   resting-spares e k fd (call.New owner size name) i = tt
-  resting-spares e k fd (call.Fd owner n flags routine user) i = tt
-  resting-spares e k fd call.Turn i = tt
+  resting-spares e k fd (call.Fd owner n flags routine user context) i = tt
+  resting-spares e k fd (call.Turn context) i = tt
   resting-spares e k fd _ i = absurd i
 
   spared : (f : Frame) → Stands d l p.next f fs → Claims d p f fs → (k : ℕ) (b : Connection) → IsKnown d k b → SparedBy b.event (object k) b.descriptor fs p f
@@ -120,9 +121,9 @@ step-attended d l p f fs whole o a = each f whole o a (step-fine d l p f fs o a.
     each (frame.Call (Asking (ask.Routine m))) whole o a fine seats kids leads = routine-attended d l fs p m whole a fine seats leads
     each (frame.Call (Asking _)) whole o a fine seats kids leads = absurd a.fine.stands
     each (frame.Call (Doing ask.Quiet c)) whole o a fine seats kids leads =
-        gather d l p a.clean (plan_step ask.Quiet (planned p c) p) fs (plan-asks ask.Quiet (planned p c) p) fine seats kids (plan-rises ask.Quiet (planned p c) p) (rest-claims d p (planned p c) fs) leads
+        gather d l p a.clean (plan_step ask.Quiet (planned_at ask.Quiet p c) p) fs (plan-asks ask.Quiet (planned_at ask.Quiet p c) p) fine seats kids (plan-rises ask.Quiet (planned_at ask.Quiet p c) p) (rest-claims d p (planned_at ask.Quiet p c) fs) leads
     each (frame.Call (Doing (ask.Routine m) c)) whole o a fine seats kids leads =
-        gather d l p a.clean (plan_step (ask.Routine m) (planned p c) p) fs (plan-asks (ask.Routine m) (planned p c) p) fine seats kids (plan-rises (ask.Routine m) (planned p c) p)
+        gather d l p a.clean (plan_step (ask.Routine m) (planned_at (ask.Routine m) p c) p) fs (plan-asks (ask.Routine m) (planned_at (ask.Routine m) p c) p) fine seats kids (plan-rises (ask.Routine m) (planned_at (ask.Routine m) p c) p)
         (does-claims d p whole.sound.started whole.awaits whole.sound.valid a.kids a.clean l m c fs a.fine.stands a.claims.0) leads
     each (frame.Call (Doing _ c)) whole o a fine seats kids leads = absurd a.fine.stands
     each (frame.Call (Announcing q notice r)) whole o a fine seats kids leads =

@@ -17,11 +17,12 @@ use Rattle.tree_specs.specs.declared.frame.CallFrame.TheVariants.{Doing, Request
 use Rattle.tree_specs.specs.declared.frame.Errand.{Errand}
 use Rattle.tree_specs.specs.declared.frame.Errand.TheVariants.{Finish, Notify, Receive, Cancel}
 use Rattle.tree_specs.specs.Tree.Pool.{Pool}
+use Rattle.tree_specs.specs.Words.Objects.{same, first_context}
 use Rattle.tree_specs.specs.Tree.Targets.{newest_ref}
 use Rattle.tree_specs.specs.Events.Queues.{runs as runs_queue}
-use Rattle.tree_specs.specs.Calls.Refusals.{Check, refusals}
-use Rattle.tree_specs.specs.Calls.Plans.{Change, Plan, plan, planned, unless_refused, changed_by, frees}
-use Rattle.tree_specs.specs.Calls.Plans.Change.{Then}
+use Rattle.tree_specs.specs.Calls.Refusals.{Check, refusals_at}
+use Rattle.tree_specs.specs.Calls.Plans.{Change, Plan, plan, planned_at, unless_refused, changed_by, frees}
+use Rattle.tree_specs.specs.Calls.Plans.Change.{Then, Enter}
 use Rattle.tree_specs.specs.Calls.Plans.Plan.{Does as DoesPlan, Frees, Unlinks, Empties, Asks, Turns, Works}
 use Rattle.tree_specs.specs.Machine.Table.{plan_step, work_of, step}
 use Rattle.tree_specs.proofs.Tree.Numbered.{by_test}
@@ -43,6 +44,7 @@ use Rattle.service_rules.proofs.Standing.{keeps-later, session-later, calm-after
 -- a change takes numbers upwards
 pub next-rises : (c : Change) (p : Pool) → p.next ≤ (changed_by c p).next
 next-rises (Then first second) p = let a = next-rises first p in let b = next-rises second (changed_by first p) in omega (arith, a, b)
+next-rises (Enter c) p = by_test (same c first_context) (λ t. rw t (omega arith)) (λ t. rw t (omega arith))
 next-rises _ p = omega arith
 
 -- no plan for a call that isn't a write asks for one
@@ -69,7 +71,7 @@ module _ (d : Knowledge) (l : Ledger) (fs : List Frame) (p : Pool) where
   abbrev Fits : Task → Plan → Type 0
   Fits t (DoesPlan change notice r) = After d l (changed_by change p).next r t
   Fits t (Asks q) = IsAskOf d q t
-  Fits t Turns = After d l p.next (reply.No refusal.Nested) t
+  Fits t (Turns context) = After d l p.next (reply.No refusal.Nested) t
   Fits t plan = IsCalm t
 
   refused-after : (why : Refusal) (t : Task) → Before d l p.next t → Goes d l whole → After d l p.next (reply.No why) t
@@ -97,7 +99,7 @@ module _ (d : Knowledge) (l : Ledger) (fs : List Frame) (p : Pool) where
   calm-fits t (Unlinks o x) c g asks n = c
   calm-fits t (Empties x) c g asks n = c
   calm-fits t (Asks q) c g asks n = asks q n
-  calm-fits t Turns c g asks n = calm-after d l p.next (reply.No refusal.Nested) t c g
+  calm-fits t (Turns context) c g asks n = calm-after d l p.next (reply.No refusal.Nested) t c g
   calm-fits t (Works change errand x) c g asks n = c
 
   frees-fits : (t : Task) (o : Option Obj) (x : Obj) → IsCalm t → Fits t (frees o x)
@@ -132,8 +134,8 @@ module _ (d : Knowledge) (l : Ledger) (fs : List Frame) (p : Pool) where
   plan-fits (task.Trigger s at) c k b g is = calm-fits (task.Trigger s at) (plan p c) tt g (λ q n. n) (plan-no-writing p c is)
   plan-fits task.Return c k b g is = calm-fits task.Return (plan p c) tt g (λ q n. n) (plan-no-writing p c is)
 
-  planned-fits : (t : Task) (c : Call) → Keeps d l p.next → Before d l p.next t → Goes d l whole → IsCallOf d c t → Fits t (planned p c)
-  planned-fits t c k b g is = each (refusals p c)
+  planned-fits : (q : Ask) (t : Task) (c : Call) → Keeps d l p.next → Before d l p.next t → Goes d l whole → IsCallOf d c t → Fits t (planned_at q p c)
+  planned-fits q t c k b g is = each (refusals_at q p c)
     where
       each : (check : Check) → Fits t (unless_refused check (plan p c))
       each [] = plan-fits t c k b g is
@@ -153,17 +155,17 @@ module _ (d : Knowledge) (l : Ledger) (fs : List Frame) (p : Pool) where
   run-leads m (Unlinks o x) own k g top = record { keeps = k; stands = (g, (own, top)) }
   run-leads m (Empties x) own k g top = record { keeps = k; stands = (g, (own, top)) }
   run-leads m (Asks q) own k g top = record { keeps = k; stands = (own, g, top) }
-  run-leads m Turns own k g top = record { keeps = k; stands = (refl, (own, top)) }
+  run-leads m (Turns context) own k g top = record { keeps = k; stands = (refl, (own, top)) }
   run-leads m (Works change errand x) own k g top = record {
     keeps = keeps-later d l p.next (changed_by change p).next (next-rises change p) k;
     stands = errand-stands errand x (changed_by change p).next (frame.Call (Requesting (ask.Routine m)) ∷ fs) (g, (own, top));
   }
 
   pub run-does : (m : Moment) (c : Call) → Keeps d l p.next → Does d l p.next (ask.Routine m) c fs → LeadsFine d l p (step (frame.Call (Doing (ask.Routine m) c)) p) fs
-  run-does m c k w = run-leads m (planned p c) w.0 k w.1 (each d.runs w.2)
+  run-does m c k w = run-leads m (planned_at (ask.Routine m) p c) w.0 k w.1 (each d.runs w.2)
     where
-      each : (runs : List Run) → Top (λ t. Before d l p.next t × IsCallOf d c t) (Below fs) runs → Top (λ t. Fits t (planned p c)) (Below fs) runs
-      each (Own t ∷ runs) top = (planned-fits t c k top.0.0 w.1 top.0.1, top.1)
+      each : (runs : List Run) → Top (λ t. Before d l p.next t × IsCallOf d c t) (Below fs) runs → Top (λ t. Fits t (planned_at (ask.Routine m) p c)) (Below fs) runs
+      each (Own t ∷ runs) top = (planned-fits (ask.Routine m) t c k top.0.0 w.1 top.0.1, top.1)
       each [] top = absurd top
       each (Outside ∷ runs) top = absurd top
 
@@ -173,13 +175,13 @@ module _ (d : Knowledge) (l : Ledger) (fs : List Frame) (p : Pool) where
   AsksNothing (Asks q) = ⊥
   AsksNothing plan = Unit {0}
 
-  resting-plan : (c : Call) → IsResting d l p.next c → AsksNothing (planned p c)
-  resting-plan c h = each (refusals p c)
+  resting-plan : (c : Call) → IsResting d l p.next c → AsksNothing (planned_at ask.Quiet p c)
+  resting-plan c h = each (refusals_at ask.Quiet p c)
     where
       plain : (c : Call) → IsResting d l p.next c → AsksNothing (plan p c)
       plain (call.New owner size name) i = tt
-      plain (call.Fd owner fd flags routine user) i = tt
-      plain call.Turn i = tt
+      plain (call.Fd owner fd flags routine user context) i = tt
+      plain (call.Turn context) i = tt
       plain _ i = absurd i
 
       each : (check : Check) → AsksNothing (unless_refused check (plan p c))
@@ -193,11 +195,11 @@ module _ (d : Knowledge) (l : Ledger) (fs : List Frame) (p : Pool) where
   rest-leads (Unlinks o x) n k w = record { keeps = k; stands = w }
   rest-leads (Empties x) n k w = record { keeps = k; stands = w }
   rest-leads (Asks q) n k w = absurd n
-  rest-leads Turns n k w = record { keeps = k; stands = w }
+  rest-leads (Turns context) n k w = let e = next-rises (Enter context) p in record { keeps = keeps-later d l p.next (changed_by (Enter context) p).next e k; stands = w }
   rest-leads (Works change errand x) n k w = record {
     keeps = keeps-later d l p.next (changed_by change p).next (next-rises change p) k;
     stands = errand-stands errand x (changed_by change p).next (frame.Call (Requesting ask.Quiet) ∷ fs) w;
   }
 
   pub rest-does : (c : Call) → Keeps d l p.next → Does d l p.next ask.Quiet c fs → LeadsFine d l p (step (frame.Call (Doing ask.Quiet c)) p) fs
-  rest-does c k w = rest-leads (planned p c) (resting-plan c w.0) k w.1
+  rest-does c k w = rest-leads (planned_at ask.Quiet p c) (resting-plan c w.0) k w.1

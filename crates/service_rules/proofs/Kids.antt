@@ -18,23 +18,23 @@ use Rattle.tree_specs.specs.declared.frame.FreeFrame.TheVariants.{Unlinking, Rel
 use Rattle.tree_specs.specs.declared.frame.Purpose.{Purpose}
 use Rattle.tree_specs.specs.declared.frame.Purpose.TheVariants.{Removal, Emptying}
 use Rattle.tree_specs.specs.declared.frame.TurnFrame.{TurnFrame}
-use Rattle.tree_specs.specs.declared.frame.TurnFrame.TheVariants.{Taking, Timing, Timed, Polling, Starting, Firing, Handling, Handled, Clearing, Serving, Closing}
+use Rattle.tree_specs.specs.declared.frame.TurnFrame.TheVariants.{Taking, Timing, Timed, Polling, Starting, Firing, Handling, Handled, Clearing, Serving, Parting, Closing}
 use Rattle.tree_specs.specs.declared.frame.RequestFrame.{RequestFrame}
 use Rattle.tree_specs.specs.declared.frame.RequestFrame.TheVariants as request
 use Rattle.tree_specs.specs.declared.frame.Errand.{Errand}
 use Rattle.tree_specs.specs.declared.frame.Errand.TheVariants.{Receive}
 use Rattle.tree_specs.specs.declared.free_step.FreeReply.{FreeReply}
 use Rattle.tree_specs.specs.declared.free_step.FreeReply.TheVariants as free_reply
-use Rattle.tree_specs.specs.Tree.Pool.{Pool, row_of, owner_of, is_below, is_inside, newest_ref_of, target_at, first_kid, run_queue}
+use Rattle.tree_specs.specs.Tree.Pool.{Pool, row_of, owner_of, is_below, is_inside, newest_ref_of, target_at, first_kid, run_queue, is_usable, exit}
 use Rattle.tree_specs.specs.Tree.Targets.{newest_ref}
-use Rattle.tree_specs.specs.Calls.Refusals.{is_request, is_queue}
+use Rattle.tree_specs.specs.Calls.Refusals.{is_request, is_queue, is_doomed}
 use Rattle.tree_specs.specs.Calls.Plans.{Plan, planned}
 use Rattle.tree_specs.specs.Calls.Plans.Plan.{Frees, Unlinks}
 use Rattle.tree_specs.specs.Events.Coming.{handler_for, goes_after, begun}
 use Rattle.tree_specs.specs.Events.Queues.{Head, head_of, next_of}
 use Rattle.tree_specs.specs.Events.Requests.{note_of, without_note, renoted, is_unreceived, cleanup_in, cancel_in, cleaned, not_deferring, in_state}
 use Rattle.tree_specs.specs.Machine.FreeTable.{FreeMove, free_step, begin_step, begin_by, unlink_step, release_step, refs_step, loop_step, last_step, child_step, tried_step, hand_on_step}
-use Rattle.tree_specs.specs.Machine.Table.{Step, step, announced, event_of, lifted, starting_step, handled_step, turn_step, cancelling_step, cleaning_step, release_object, cleaned_step, callback_step, notifying_step, receiving_step, vacating_step, triggering_step, request_step}
+use Rattle.tree_specs.specs.Machine.Table.{Step, step, announced, event_of, lifted, starting_step, handled_step, turn_step, cancelling_step, cleaning_step, release_object, cleaned_step, callback_step, notifying_step, receiving_step, vacating_step, triggering_step, deferred_step, parting_step, closing_step, request_step}
 use Rattle.tree_specs.specs.Tree.Pool.{remove, schedule, renote, finish, receive}
 use Rattle.tree_specs.proofs.Tree.Numbered.{by_test, same_or_not}
 use Rattle.tree_specs.proofs.Invariants.Turning.{Passes, Pass, Serve, Trigger, look-passes, rotated-rows}
@@ -170,9 +170,9 @@ free-leads p (Do.Call g f q) n = n
 -- ---- turns
 
 passes-kids : (p : Pool) (m : Step) → Passes p m → LeadsKids p m
-passes-kids p _ (Pass t r rows next notes queues times plain) = kept p r notes
-passes-kids p _ (Trigger x r rows next notes queues times queue) = kept p r notes
-passes-kids p _ (Serve errand x r rows next notes queues times served noted) = kept p r notes
+passes-kids p _ (Pass t r rows next notes queues turning times plain) = kept p r notes
+passes-kids p _ (Trigger x r rows next notes queues turning times queue) = kept p r notes
+passes-kids p _ (Serve errand x r rows next notes queues turning times served noted) = kept p r notes
 
 turn-kids : (f : TurnFrame) (p : Pool) → LeadsKids p (turn_step f p)
 turn-kids Taking p = passes-kids p (turn_step Taking p) (look-passes Taking p tt)
@@ -193,7 +193,16 @@ turn-kids (Handled what x) p = each (goes_after p what x)
     each false = kept p (set_mark p x mark.Quiet) refl
 turn-kids (Clearing x) p = kept p p refl
 turn-kids (Serving x) p = kept p p refl
-turn-kids (Closing v) p = kept p p refl
+turn-kids (Parting c v) p = kept p p refl
+turn-kids (Closing v) p = each p.turning
+  where
+    parts : (c : Obj) (b : Bool) → LeadsKids p (parting_step c v b p)
+    parts c true = kept p (exit p c) refl
+    parts c false = kept p (exit p c) refl
+
+    each : (o : Option Obj) → LeadsKids p (closing_step v o p)
+    each None = kept p p refl
+    each (Some c) = parts c (is_doomed p c)
 
 -- ---- requests
 
@@ -233,7 +242,13 @@ request-kids (request.Notifying x errand) p = each (note_of p.requests x)
 
     each : (o : Option Note) → LeadsKids p (notifying_step x errand o p)
     each None = kept p p refl
-    each (Some n) = by_test n.deferred (λ t. rw t (changed-note not_deferring p (schedule (renote p x not_deferring) x) x refl (λ n. refl))) (λ t. rw t (back n.callback))
+    each (Some n) = deferred n.deferred
+      where
+        deferred : (o : Option Obj) → LeadsKids p (deferred_step x errand o n.callback p)
+        deferred (Some c) = by_test (is_usable p.rows c)
+            (λ t. rw t (changed-note not_deferring p (schedule (renote p x not_deferring) x c) x refl (λ n. refl)))
+            (λ t. rw t (changed-note not_deferring p (renote p x not_deferring) x refl (λ n. refl)))
+        deferred None = back n.callback
 request-kids (request.Calling what x handler errand) p = kept p p refl
 request-kids (request.Called what x handler errand) p = kept p p refl
 request-kids (request.Releasing c) p = kept p p refl

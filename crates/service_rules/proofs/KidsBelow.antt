@@ -12,13 +12,14 @@ use Rattle.tree_specs.specs.declared.frame.Frame.{Frame}
 use Rattle.tree_specs.specs.declared.frame.Frame.TheVariants as frame
 use Rattle.tree_specs.specs.declared.frame.CallFrame.TheVariants.{Doing}
 use Rattle.tree_specs.specs.declared.frame.OutsideFrame.TheVariants.{Reaching, Opening, Hearing}
+use Rattle.tree_specs.specs.Words.Objects.{same, first_context}
 use Rattle.tree_specs.specs.Tree.Targets.{newest_ref}
-use Rattle.tree_specs.specs.Tree.Pool.{Pool}
+use Rattle.tree_specs.specs.Tree.Pool.{Pool, enter}
 use Rattle.tree_specs.specs.Events.Queues.{runs as runs_queue}
 use Rattle.tree_specs.specs.Events.Requests.{note_of, with_note, new_note}
-use Rattle.tree_specs.specs.Calls.Refusals.{Check, refusals}
-use Rattle.tree_specs.specs.Calls.Plans.{Change, Plan, plan, planned, unless_refused, changed_by, frees, handed, gift}
-use Rattle.tree_specs.specs.Calls.Plans.Change.{Renotes, AddRequest, Then, Nothing, Edit, Add, Place, Handle, Schedule, Unschedule, Arm, Watches, Rewatch, Close, TakeNumber, Runs, AddQueue, AddEntry, LooksAt}
+use Rattle.tree_specs.specs.Calls.Refusals.{Check, refusals_at}
+use Rattle.tree_specs.specs.Calls.Plans.{Change, Plan, plan, planned_at, unless_refused, changed_by, frees, handed, gift}
+use Rattle.tree_specs.specs.Calls.Plans.Change.{Renotes, AddRequest, Then, Nothing, Edit, Add, Place, Handle, Schedule, Unschedule, Arm, Watches, Rewatch, Close, TakeNumber, Runs, AddQueue, AddEntry, LooksAt, Enter}
 use Rattle.tree_specs.specs.Calls.Plans.Plan.{Does, Frees, Unlinks, Empties, Asks, Turns, Works}
 use Rattle.tree_specs.specs.Invariants.Awaiting.{pool_after}
 use Rattle.tree_specs.specs.Machine.Table.{Step, step, plan_step}
@@ -48,6 +49,10 @@ KeepsKids (Renotes x g) = (n : Note) → (g n).child ≡ n.child
 KeepsKids (Then first second) = KeepsKids first × KeepsKids second
 KeepsKids c = Unit {0}
 
+-- a turn of a context begins
+entered-kids : (p : Pool) (c : Obj) → KidsBelow p → KidsBelow (enter p c)
+entered-kids p c below = by_test (same c first_context) (λ t. rw t below) (λ t. rw t below)
+
 change-kids : (c : Change) (p : Pool) → KeepsKids c → KidsBelow p → KidsBelow (changed_by c p)
 change-kids (Renotes x g) p k below = kids-on p (changed_by (Renotes x g) p) (changed-note g p (changed_by (Renotes x g) p) x refl k) (next-rises (Renotes x g) p) below
 change-kids (Then first second) p k below = change-kids second (changed_by first p) k.1 (change-kids first p k.0 below)
@@ -64,10 +69,10 @@ change-kids (Edit x g) p k below = below
 change-kids (Add sort o size name) p k below = kids-same p (changed_by (Add sort o size name) p) refl (next-rises (Add sort o size name) p) below
 change-kids (Place o x) p k below = below
 change-kids (Handle x handler) p k below = below
-change-kids (Schedule x) p k below = below
+change-kids (Schedule x c) p k below = below
 change-kids (Unschedule x) p k below = below
-change-kids (Arm x time number) p k below = below
-change-kids (Watches x n flags) p k below = below
+change-kids (Arm x time number c) p k below = below
+change-kids (Watches x n flags c) p k below = below
 change-kids (Rewatch x g) p k below = below
 change-kids (Close n) p k below = below
 change-kids TakeNumber p k below = kids-same p (changed_by TakeNumber p) refl (next-rises TakeNumber p) below
@@ -75,6 +80,7 @@ change-kids (Runs q running) p k below = below
 change-kids (AddQueue o name) p k below = kids-same p (changed_by (AddQueue o name) p) refl (next-rises (AddQueue o name) p) below
 change-kids (AddEntry q x trigger) p k below = kids-same p (changed_by (AddEntry q x trigger) p) refl (next-rises (AddEntry q x trigger) p) below
 change-kids (LooksAt q) p k below = below
+change-kids (Enter c) p k below = entered-kids p c below
 
 abbrev PlanKids : Plan → Type 0
 PlanKids (Does c notice r) = KeepsKids c
@@ -92,20 +98,20 @@ handed-kids p (call.Reparent from to x) = each (gift p from x)
     each : (o : Option Obj) → KeepsKids (handed to o)
     each None = tt
     each (Some r) = tt
-handed-kids p (call.Schedule x routine user) = by_test (nat_eq routine 0) (λ b. rw b tt) (λ b. rw b (tt, tt))
-handed-kids p (call.Timer o time routine user) = (tt, (tt, tt))
-handed-kids p (call.Fd o n flags routine user) = (tt, (tt, tt))
+handed-kids p (call.Schedule x routine user c) = by_test (nat_eq routine 0) (λ b. rw b tt) (λ b. rw b (tt, tt))
+handed-kids p (call.Timer o time routine user c) = (tt, (tt, tt))
+handed-kids p (call.Fd o n flags routine user c) = (tt, (tt, tt))
 handed-kids p (call.Callback x routine user) = λ n. refl
-handed-kids p (call.Defer x) = λ n. refl
+handed-kids p (call.Defer x c) = λ n. refl
 handed-kids p (call.Cleanup x routine) = λ n. refl
 handed-kids p (call.Setcancel x routine) = λ n. refl
 handed-kids p (call.Error x error) = by_test (nat_eq error 0) (λ b. rw b tt) (λ b. rw b (λ n. refl))
-handed-kids p (call.Endtime x time) = (tt, tt)
+handed-kids p (call.Endtime x time c) = (tt, tt)
 handed-kids p (call.Start q) = by_test (runs_queue p.queues q) (λ b. rw b tt) (λ b. rw b (tt, tt))
 handed-kids p _ = tt
 
-planned-kids : (p : Pool) (c : Call) → PlanKids (planned p c)
-planned-kids p c = each (refusals p c)
+planned-kids : (q : Ask) (p : Pool) (c : Call) → PlanKids (planned_at q p c)
+planned-kids q p c = each (refusals_at q p c)
   where
     each : (check : Check) → PlanKids (unless_refused check (plan p c))
     each [] = handed-kids p c
@@ -118,8 +124,8 @@ call-kids q (Frees x) p k below = below
 call-kids q (Unlinks o x) p k below = below
 call-kids q (Empties x) p k below = below
 call-kids q (Asks o) p k below = below
-call-kids ask.Quiet Turns p k below = below
-call-kids _ Turns p k below = below
+call-kids ask.Quiet (Turns c) p k below = entered-kids p c below
+call-kids _ (Turns c) p k below = below
 call-kids q (Works c errand x) p k below = change-kids c p k below
 
 -- ---- all works
@@ -138,5 +144,5 @@ step-kids (frame.Request f) p below = kids-on p (pool_after (step (frame.Request
 step-kids (frame.Outside (Reaching q)) p below = below
 step-kids (frame.Outside (Opening n)) p below = below
 step-kids (frame.Outside (Hearing r)) p below = below
-step-kids (frame.Call (Doing q c)) p below = call-kids q (planned p c) p (planned-kids p c) below
+step-kids (frame.Call (Doing q c)) p below = call-kids q (planned_at q p c) p (planned-kids q p c) below
 step-kids (frame.Call _) p below = below

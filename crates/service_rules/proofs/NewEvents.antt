@@ -12,7 +12,7 @@ use Rattle.tree_specs.specs.declared.question.Ask.TheVariants as ask
 use Rattle.tree_specs.specs.declared.frame.Frame.{Frame}
 use Rattle.tree_specs.specs.declared.frame.Frame.TheVariants as frame
 use Rattle.tree_specs.specs.declared.frame.CallFrame.TheVariants.{Awaiting, Requesting, Turning}
-use Rattle.tree_specs.specs.declared.frame.TurnFrame.TheVariants.{Handling, Clearing, Serving}
+use Rattle.tree_specs.specs.declared.frame.TurnFrame.TheVariants.{Handling, Clearing, Serving, Parting}
 use Rattle.tree_specs.specs.declared.frame.RequestFrame.TheVariants as request
 use Rattle.tree_specs.specs.Words.Objects.{same, numbered_owner}
 use Rattle.tree_specs.specs.Tree.Pool.{Pool, row_of, new_row}
@@ -63,6 +63,7 @@ turning x h o [] runs w s b = absurd w.0
 turning x h o (frame.Free f ∷ hs) runs w s b = absurd w.0
 turning x h o (frame.Turn (Clearing y) ∷ hs) runs w s b = absurd w.0
 turning x h o (frame.Turn (Serving y) ∷ hs) runs w s b = absurd w.0
+turning x h o (frame.Turn (Parting c v) ∷ hs) runs w s b = absurd w.0
 turning x h o (frame.Turn _ ∷ hs) runs w s b = absurd w.0
 turning x h o (frame.Outside f ∷ hs) runs w s b = absurd w.0
 turning x h o (frame.Request (request.Releasing c) ∷ hs) runs w s b = absurd w.0
@@ -96,8 +97,8 @@ new-tended p s fd flags handler positive awaits valid kids = record {
   kind = refl;
   hook = refl;
   owner = ap Some (numbered s positive);
-  watch = record { object = e; fd = fd; flags = flags; closes = false };
-  watches = pushed-none p.ring e (record { object = e; fd = fd; flags = flags; closes = false }) (unwatched (watch_of p.ring e) refl) refl;
+  watch = record { object = e; fd = fd; flags = flags; closes = false; context = Some handler.context };
+  watches = pushed-none p.ring e (record { object = e; fd = fd; flags = flags; closes = false; context = Some handler.context }) (unwatched (watch_of p.ring e) refl) refl;
   on = refl;
   apart = λ x n h i. let l : n.child.0 < p.next = kids x n h in let j : n.child.0 ≡ p.next = ap (λ (z : Obj). z.0) i in absurd (omega arith);
 }

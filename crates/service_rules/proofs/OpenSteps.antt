@@ -17,19 +17,20 @@ use Rattle.tree_specs.specs.declared.frame.CallFrame.TheVariants.{Asking, Doing,
 use Rattle.tree_specs.specs.declared.frame.TurnFrame.TheVariants.{Timing, Polling}
 use Rattle.tree_specs.specs.declared.frame.OutsideFrame.TheVariants.{Reaching, Opening, Hearing}
 use Rattle.tree_specs.specs.declared.frame.Answer.{Answer}
+use Rattle.tree_specs.specs.Words.Objects.{same, first_context}
 use Rattle.tree_specs.specs.Tree.Pool.{Pool, open_descriptor}
 use Rattle.tree_specs.specs.Tree.Targets.{newest_ref}
 use Rattle.tree_specs.specs.Rules.Items.Item.{Told, Asked}
 use Rattle.tree_specs.specs.Rules.Pieces.{notice_event}
-use Rattle.tree_specs.specs.Calls.Plans.{Change, Plan, changed_by, plan, planned, frees, places, warns}
-use Rattle.tree_specs.specs.Calls.Plans.Change.{Close, Then}
+use Rattle.tree_specs.specs.Calls.Plans.{Change, Plan, changed_by, plan, planned_at, frees, places, warns}
+use Rattle.tree_specs.specs.Calls.Plans.Change.{Close, Enter, Then}
 use Rattle.tree_specs.specs.Calls.Plans.Plan.{Does, Frees, Unlinks, Empties, Asks, Turns, Works}
 use Rattle.tree_specs.specs.Events.Queues.{runs}
 use Rattle.tree_specs.specs.Machine.Table.{Step, step, resume, work_of, plan_step}
 use Rattle.tree_specs.specs.Invariants.Sound.{AllWait}
 use Rattle.tree_specs.specs.Invariants.Consistent.{IsConsistent}
 use Rattle.tree_specs.proofs.Tree.Numbered.{by_test}
-use Rattle.tree_specs.proofs.Calls.Checks.{planned-by}
+use Rattle.tree_specs.proofs.Calls.Checks.{planned-by, planned-at-by}
 use Rattle.tree_specs.proofs.Invariants.Waiters.{waiter}
 use Rattle.tree_stories.proofs.Outsides.{AsksOutside}
 use Rattle.service_rules.specs.Exchanges.{Suits}
@@ -53,6 +54,7 @@ LeadsFollowing known (Do.Call g f q) fs = Follows known g q
 changed-known : (known : ℕ → Bool) (c : Change) (p : Pool) → AllKnown known p.descriptors → AllKnown known (changed_by c p).descriptors
 changed-known known (Close fd) p all = closed-known known p.descriptors all fd
 changed-known known (Then c d) p all = changed-known known d (changed_by c p) (changed-known known c p all)
+changed-known known (Enter c) p all = by_test (same c first_context) (λ t. rw t all) (λ t. rw t all)
 changed-known known _ p all = all
 
 -- what is announced to be closed is closed by then
@@ -60,8 +62,8 @@ abbrev ClosesFirst : Pool → Plan → Type 0
 ClosesFirst p (Does c (Some n) r) = IsClosed (changed_by c p) n
 ClosesFirst p plan = Unit {0}
 
-closes-first : (p : Pool) (c : Call) → ClosesFirst p (planned p c)
-closes-first p c = planned-by (ClosesFirst p) p c (λ passed. each c) (λ r. tt)
+closes-first : (q : Ask) (p : Pool) (c : Call) → ClosesFirst p (planned_at q p c)
+closes-first q p c = planned-at-by (ClosesFirst p) q p c (planned-by (ClosesFirst p) p c (λ passed. each c) (λ r. tt)) (λ nested. tt)
   where
     freed : (x : Obj) (o : Option Obj) → ClosesFirst p (frees o x)
     freed x None = tt
@@ -110,8 +112,8 @@ module _ (known : ℕ → Bool) (fs : List Frame) (p : Pool) (all : AllKnown kno
   plan-follows q (Unlinks o x) first = record { all = all; expects = tt }
   plan-follows q (Empties x) first = record { all = all; expects = tt }
   plan-follows q (Asks outside) first = record { all = all; expects = tt }
-  plan-follows ask.Quiet Turns first = record { all = all; expects = tt }
-  plan-follows _ Turns first = record { all = all; expects = tt }
+  plan-follows ask.Quiet (Turns c) first = record { all = changed-known known (Enter c) p all; expects = tt }
+  plan-follows _ (Turns c) first = record { all = all; expects = tt }
   plan-follows q (Works change errand x) first = record { all = changed-known known change p all; expects = carries-expects known (changed_by change p) (work_of errand x) (start-carries (work_of errand x) (errand-starts errand x)) }
 
   announced-follows : (q : Ask) (n : Notice) (r : Reply) → IsClosed p n → Follows (known_after known (notice_event n)) (frame.Call (Telling q r)) p
@@ -128,7 +130,7 @@ module _ (known : ℕ → Bool) (fs : List Frame) (p : Pool) (all : AllKnown kno
   follows-by (frame.Outside (Opening fd)) h a e = done-follows _ (open_descriptor p fd) (opened-known known p.descriptors all fd e) h.sound.waiting
   follows-by (frame.Outside (Hearing r)) h a e = done-follows _ p all h.sound.waiting
   follows-by (frame.Call (Asking q)) h a e = (all, λ i s new. asking-takes known p q fs h.seated i s)
-  follows-by (frame.Call (Doing q c)) h a e = plan-follows q (planned p c) (closes-first p c)
+  follows-by (frame.Call (Doing q c)) h a e = plan-follows q (planned_at q p c) (closes-first q p c)
   follows-by (frame.Call (Announcing q n r)) h a e = announced-follows q n r e
   follows-by (frame.Call (Telling q r)) h a e = record { all = all; expects = tt }
   follows-by (frame.Call (Awaiting q x)) h a e = done-follows _ p all h.sound.waiting

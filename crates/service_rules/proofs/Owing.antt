@@ -177,8 +177,8 @@ module _ (d : Knowledge) (l : Ledger) (next : ℕ) where
   -- the service's own call at rest
   abbrev pub IsResting : Call → Type 0
   IsResting (call.New owner size name) = Unit {0}
-  IsResting (call.Fd owner fd flags routine user) = Unit {0}
-  IsResting call.Turn = Unit {0}
+  IsResting (call.Fd owner fd flags routine user c) = Unit {0}
+  IsResting (call.Turn c) = Unit {0}
   IsResting c = ⊥
 
   abbrev pub Does : Ask → Call → List Frame → Type 0

@@ -29,7 +29,7 @@ use Rattle.tree_specs.specs.Rules.Sequence.{CallStart, Scene}
 use Rattle.tree_specs.specs.Rules.Story.{story, turns}
 use Rattle.tree_specs.specs.Calls.Given.{Given, given_to}
 use Rattle.tree_specs.specs.Calls.Given.Given.{Calls, Returns, Tells, IsReady, Opens, Answers}
-use Rattle.tree_specs.specs.Calls.Plans.{Plan, plan, planned, frees}
+use Rattle.tree_specs.specs.Calls.Plans.{Plan, plan, planned_at, frees}
 use Rattle.tree_specs.specs.Calls.Plans.Plan.{Does, Frees, Unlinks, Empties, Asks, Turns, Works}
 use Rattle.tree_specs.specs.Events.Queues.{runs}
 use Rattle.tree_specs.specs.Machine.Table.{Step, table, notes, step, taken, resume, work_of, plan_step, doing, returning}
@@ -39,7 +39,7 @@ use Rattle.tree_specs.specs.Words.Ranges.{is_sound_call, is_return, is_length}
 use Rattle.tree_specs.specs.Invariants.Sound.{AllWait}
 use Rattle.tree_specs.specs.Invariants.Consistent.{IsConsistent}
 use Rattle.tree_specs.proofs.Tree.Numbered.{by_test}
-use Rattle.tree_specs.proofs.Calls.Checks.{both-true, planned-by, Reached, reached-leads}
+use Rattle.tree_specs.proofs.Calls.Checks.{both-true, planned-by, planned-at-by, Reached, reached-leads}
 use Rattle.tree_specs.proofs.Calls.Checks.Reached.{ReachedOpening, ReachedHearing}
 use Rattle.tree_specs.proofs.Invariants.Waiters.{waiter}
 use Rattle.tree_specs.proofs.Promises.Causes.{NotedWork}
@@ -112,8 +112,8 @@ AsksInRange (Asks q) = reads_in_range q ≡ true
 AsksInRange plan = Unit {0}
 
 -- what a call of sound numbers asks of the outside is in range
-plan-asks : (p : Pool) (c : Call) → is_sound_call c ≡ true → AsksInRange (planned p c)
-plan-asks p c sound = planned-by AsksInRange p c (λ passed. each c sound) (λ r. tt)
+plan-asks : (q : Ask) (p : Pool) (c : Call) → is_sound_call c ≡ true → AsksInRange (planned_at q p c)
+plan-asks q p c sound = planned-at-by AsksInRange q p c (planned-by AsksInRange p c (λ passed. each c sound) (λ r. tt)) (λ nested. tt)
   where
     freed : (x : Obj) (o : Option Obj) → AsksInRange (frees o x)
     freed x None = tt
@@ -136,8 +136,8 @@ plan-ranges q (Frees x) p fs asks = tt
 plan-ranges q (Unlinks o x) p fs asks = tt
 plan-ranges q (Empties x) p fs asks = tt
 plan-ranges q (Asks outside) p fs asks = asks
-plan-ranges ask.Quiet Turns p fs asks = tt
-plan-ranges _ Turns p fs asks = tt
+plan-ranges ask.Quiet (Turns c) p fs asks = tt
+plan-ranges _ (Turns c) p fs asks = tt
 plan-ranges q (Works change errand x) p fs asks = carries-ranges (work_of errand x) (start-carries (work_of errand x) (errand-starts errand x))
 
 -- a call is only taken where its numbers have their ranges
@@ -173,7 +173,7 @@ step-ranges (frame.Outside (Reaching q)) fs p h r = (r, λ i g e. each g (reache
 step-ranges (frame.Outside (Opening fd)) fs p h r = done-ranges _ (open_descriptor p fd) fs h.sound.waiting
 step-ranges (frame.Outside (Hearing reply)) fs p h r = done-ranges _ p fs h.sound.waiting
 step-ranges (frame.Call (Asking q)) fs p h r = (asked-range q (caller q fs h.seated), λ i g e. call-ranges q (given_to q i) g e)
-step-ranges (frame.Call (Doing q c)) fs p h r = plan-ranges q (planned p c) p fs (plan-asks p c r)
+step-ranges (frame.Call (Doing q c)) fs p h r = plan-ranges q (planned_at q p c) p fs (plan-asks q p c r)
 step-ranges (frame.Call (Announcing q n reply)) fs p h r = (refl, tt)
 step-ranges (frame.Call (Telling q reply)) fs p h r = (refl, tt)
 step-ranges (frame.Call (Awaiting q x)) fs p h r = done-ranges _ p fs h.sound.waiting

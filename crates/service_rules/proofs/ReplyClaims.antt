@@ -8,11 +8,11 @@ use Rattle.tree_specs.specs.declared.reply.Reply.{Reply}
 use Rattle.tree_specs.specs.declared.reply.Reply.TheVariants as reply
 use Rattle.tree_specs.specs.declared.reply.Refusal.TheVariants as refusal
 use Rattle.tree_specs.specs.declared.question.Ask.{Ask}
-use Rattle.tree_specs.specs.Words.Objects.{numbered_owner}
+use Rattle.tree_specs.specs.Words.Objects.{numbered_owner, first_context}
 use Rattle.tree_specs.specs.Events.Rotation.{closing}
 use Rattle.tree_specs.specs.Tree.Pool.{Pool, row_of}
-use Rattle.tree_specs.specs.Calls.Refusals.{Check, refusals}
-use Rattle.tree_specs.specs.Calls.Plans.{Change, Plan, plan, planned, unless_refused, changed_by}
+use Rattle.tree_specs.specs.Calls.Refusals.{Check, refusals_at}
+use Rattle.tree_specs.specs.Calls.Plans.{Change, Plan, plan, planned_at, unless_refused, changed_by}
 use Rattle.tree_specs.specs.Calls.Plans.Change.{Rewatch, AddQueue}
 use Rattle.tree_specs.specs.Calls.Plans.Plan.{Does, Frees as FreesPlan, Unlinks, Empties, Asks, Turns, Works}
 use Rattle.tree_specs.specs.Invariants.Awaiting.{Awaits}
@@ -99,7 +99,7 @@ module _ (d : Knowledge) (p : Pool) (started : 0 < p.next) (awaits : Awaits p) (
 
   abbrev pub RepliesWell : Task → Plan → Type 0
   RepliesWell t (Does change notice r) = After (changed_by change p) t r
-  RepliesWell t Turns = After p t (reply.No refusal.Nested)
+  RepliesWell t (Turns c) = After p t (reply.No refusal.Nested)
   RepliesWell t plan = Unit {0}
 
   settled-after : (q : Pool) (t : Task) (r : Reply) → IsSettled t → After q t r
@@ -107,7 +107,7 @@ module _ (d : Knowledge) (p : Pool) (started : 0 < p.next) (awaits : Awaits p) (
 
   settled-well : (t : Task) (plan : Plan) → IsSettled t → RepliesWell t plan
   settled-well t (Does change notice r) h = settled-after (changed_by change p) t r h
-  settled-well t Turns h = settled-after p t (reply.No refusal.Nested) h
+  settled-well t (Turns c) h = settled-after p t (reply.No refusal.Nested) h
   settled-well t (FreesPlan x) h = tt
   settled-well t (Unlinks o x) h = tt
   settled-well t (Empties x) h = tt
@@ -140,7 +140,7 @@ module _ (d : Knowledge) (p : Pool) (started : 0 < p.next) (awaits : Awaits p) (
   accepting-well (accepting.Session fd) h f (why ∷ more) = (tt, λ x u. absurd u)
   accepting-well (accepting.Event fd s) h f [] =
       let young : s.0 < p.next = (f s.0 refl).0 in
-      (has-new fd s _ (omega arith) young (new-tended p s fd 1 (record { routine = 2; user = s.0 }) h awaits valid kids), λ x u. absurd u)
+      (has-new fd s _ (omega arith) young (new-tended p s fd 1 (record { routine = 2; user = s.0; context = first_context }) h awaits valid kids), λ x u. absurd u)
   accepting-well (accepting.Event fd s) h f (why ∷ more) = (tt, λ x u. absurd u)
   accepting-well (accepting.Autoclose fd s e) h f [] = (has-changed fd s e (Rewatch e closing) ((λ w. refl), (λ w. refl)) h, λ x u. absurd u)
   accepting-well (accepting.Autoclose fd s e) h f (why ∷ more) = (h, λ x u. absurd u)
@@ -151,21 +151,21 @@ module _ (d : Knowledge) (p : Pool) (started : 0 < p.next) (awaits : Awaits p) (
   accepting-well (accepting.Free s) h f check = settled-well (task.Accept (accepting.Free s)) (unless_refused check (plan p (call.Free s))) tt
 
   -- a request's number is its own
-  req-well : (t : Task) (c : Call) → IsReq c → ((q : Pool) (r : Reply) → HoldsAfter d q (rest_of d.runs) t r) → ((n : ℕ) (x : ℕ) → FromReply t (reply.Number n) x → n ≡ x) → ((why : _) (x : ℕ) → FromReply t (reply.No why) x → ⊥)
-      → RepliesWell t (planned p c)
-  req-well t (call.Req owner size name) is holds number refused = each (refusals p (call.Req owner size name))
+  req-well : (q : Ask) (t : Task) (c : Call) → IsReq c → ((p' : Pool) (r : Reply) → HoldsAfter d p' (rest_of d.runs) t r) → ((n : ℕ) (x : ℕ) → FromReply t (reply.Number n) x → n ≡ x) → ((why : _) (x : ℕ) → FromReply t (reply.No why) x → ⊥)
+      → RepliesWell t (planned_at q p c)
+  req-well q t (call.Req owner size name) is holds number refused = each (refusals_at q p (call.Req owner size name))
     where
       each : (check : Check) → RepliesWell t (unless_refused check (plan p (call.Req owner size name)))
       each [] = (holds _ (reply.Number p.next), λ x u. new-free (p.next + 1 + 1) (omega arith) x (number p.next x u))
       each (why ∷ more) = (holds p (reply.No why), λ x u. absurd (refused why x u))
-  req-well t _ is holds number refused = absurd is
+  req-well q t _ is holds number refused = absurd is
 
-  pub call-well : (t : Task) (c : Call) → Holds d p (rest_of d.runs) t → FreesClean d p.next t → IsCallOf d c t → RepliesWell t (planned p c)
-  call-well (task.Accept at) c h f is = subst (λ (z : Call). RepliesWell (task.Accept at) (planned p z)) (sym is) (accepting-well at h f (refusals p (accepting_call at)))
-  call-well (task.Serve s (serving.Order tag (fulfilling.Sleep delay))) c h f is = req-well (task.Serve s (serving.Order tag (fulfilling.Sleep delay))) c is (λ q r. tt) (λ n x u. u) (λ why x u. u)
-  call-well (task.Serve s (serving.Order tag (fulfilling.Job delay))) c h f is = req-well (task.Serve s (serving.Order tag (fulfilling.Job delay))) c is (λ q r. tt) (λ n x u. u) (λ why x u. u)
-  call-well (task.Serve s (serving.Order tag at)) c h f is = settled-well (task.Serve s (serving.Order tag at)) (planned p c) tt
-  call-well (task.Serve s at) c h f is = settled-well (task.Serve s at) (planned p c) tt
-  call-well (task.Notify n at) c h f is = settled-well (task.Notify n at) (planned p c) tt
-  call-well (task.Trigger s at) c h f is = settled-well (task.Trigger s at) (planned p c) tt
-  call-well task.Return c h f is = settled-well task.Return (planned p c) tt
+  pub call-well : (q : Ask) (t : Task) (c : Call) → Holds d p (rest_of d.runs) t → FreesClean d p.next t → IsCallOf d c t → RepliesWell t (planned_at q p c)
+  call-well q (task.Accept at) c h f is = subst (λ (z : Call). RepliesWell (task.Accept at) (planned_at q p z)) (sym is) (accepting-well at h f (refusals_at q p (accepting_call at)))
+  call-well q (task.Serve s (serving.Order tag (fulfilling.Sleep delay))) c h f is = req-well q (task.Serve s (serving.Order tag (fulfilling.Sleep delay))) c is (λ r' r. tt) (λ n x u. u) (λ why x u. u)
+  call-well q (task.Serve s (serving.Order tag (fulfilling.Job delay))) c h f is = req-well q (task.Serve s (serving.Order tag (fulfilling.Job delay))) c is (λ r' r. tt) (λ n x u. u) (λ why x u. u)
+  call-well q (task.Serve s (serving.Order tag at)) c h f is = settled-well (task.Serve s (serving.Order tag at)) (planned_at q p c) tt
+  call-well q (task.Serve s at) c h f is = settled-well (task.Serve s at) (planned_at q p c) tt
+  call-well q (task.Notify n at) c h f is = settled-well (task.Notify n at) (planned_at q p c) tt
+  call-well q (task.Trigger s at) c h f is = settled-well (task.Trigger s at) (planned_at q p c) tt
+  call-well q task.Return c h f is = settled-well task.Return (planned_at q p c) tt

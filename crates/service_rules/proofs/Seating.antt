@@ -20,7 +20,7 @@ use Rattle.tree_specs.specs.declared.frame.CallFrame.TheVariants.{Asking, Doing,
 use Rattle.tree_specs.specs.declared.frame.FreeFrame.{FreeFrame}
 use Rattle.tree_specs.specs.declared.frame.FreeFrame.TheVariants.{Hooked, Preparing, Draining}
 use Rattle.tree_specs.specs.declared.frame.TurnFrame.{TurnFrame}
-use Rattle.tree_specs.specs.declared.frame.TurnFrame.TheVariants.{Taking, Timing, Timed, Polling, Starting, Firing, Handling, Handled, Clearing, Serving, Closing}
+use Rattle.tree_specs.specs.declared.frame.TurnFrame.TheVariants.{Taking, Timing, Timed, Polling, Starting, Firing, Handling, Handled, Clearing, Serving, Parting, Closing}
 use Rattle.tree_specs.specs.declared.frame.OutsideFrame.TheVariants.{Reaching, Opening, Hearing}
 use Rattle.tree_specs.specs.declared.frame.RequestFrame.{RequestFrame}
 use Rattle.tree_specs.specs.declared.frame.RequestFrame.TheVariants as request
@@ -29,15 +29,15 @@ use Rattle.tree_specs.specs.declared.frame.Errand.TheVariants.{Finish, Notify, R
 use Rattle.tree_specs.specs.declared.frame.Answer.{Answer}
 use Rattle.tree_specs.specs.Rules.Answers.{later, freed_reply}
 use Rattle.tree_specs.specs.Rules.Errands.{reply_to, cancelled_reply, after_routine}
-use Rattle.tree_specs.specs.Tree.Pool.{Pool, open_descriptor, run_queue}
-use Rattle.tree_specs.specs.Calls.Plans.{Plan, planned}
+use Rattle.tree_specs.specs.Tree.Pool.{Pool, open_descriptor, run_queue, exit}
+use Rattle.tree_specs.specs.Calls.Refusals.{is_doomed}
+use Rattle.tree_specs.specs.Calls.Plans.{Plan, planned, planned_at}
 use Rattle.tree_specs.specs.Calls.Plans.Plan.{Does, Frees, Unlinks, Empties, Asks, Turns, Works}
 use Rattle.tree_specs.specs.Events.Coming.{handler_for, goes_after}
 use Rattle.tree_specs.specs.Events.Queues.{Head, head_of, next_of}
 use Rattle.tree_specs.specs.Events.Requests.{note_of, is_unreceived, cleanup_in, cancel_in}
 use Rattle.tree_specs.specs.Machine.FreeTable.{FreeMove, free_step}
-use Rattle.tree_specs.specs.Machine.Table.{Step, step, taken, resume, run_for, announced, event_of, lifted, work_of, plan_step, heard_in, reply_in, value_in, starting_step, handled_step, turn_step, cancelling_step, cleaning_step, release_object, cleaned_step, callback_step, notifying_step, receiving_step, vacating_step, triggering_step, request_step}
-use Rattle.tree_specs.proofs.Tree.Numbered.{by_test}
+use Rattle.tree_specs.specs.Machine.Table.{Step, step, taken, resume, run_for, announced, event_of, lifted, work_of, plan_step, heard_in, reply_in, value_in, starting_step, handled_step, turn_step, cancelling_step, cleaning_step, release_object, cleaned_step, callback_step, notifying_step, receiving_step, vacating_step, triggering_step, deferred_step, parting_step, closing_step, request_step}
 use Rattle.tree_specs.proofs.Calls.Checks.{Heard, heard-leads, Reached, reached-leads}
 use Rattle.tree_specs.proofs.Calls.Checks.Heard.{HeardCall, HeardReturn}
 use Rattle.tree_specs.proofs.Calls.Checks.Reached.{ReachedOpening, ReachedHearing}
@@ -152,9 +152,9 @@ module _ (fs : List Frame) (p : Pool) (s : Seats fs) where
   errand-seat Cancel x gs = tt
 
   passes-seats : (m : Step) → Passes p m → LeadsSeats m fs
-  passes-seats _ (Pass t r rows next notes queues times plain) = (tt, s)
-  passes-seats _ (Trigger x r rows next notes queues times queue) = (tt, (tt, s))
-  passes-seats _ (Serve errand x r rows next notes queues times served noted) = (errand-seat errand x _, (tt, s))
+  passes-seats _ (Pass t r rows next notes queues turning times plain) = (tt, s)
+  passes-seats _ (Trigger x r rows next notes queues turning times queue) = (tt, (tt, s))
+  passes-seats _ (Serve errand x r rows next notes queues turning times served noted) = (errand-seat errand x _, (tt, s))
 
   turn-seats : (f : TurnFrame) → LeadsSeats (turn_step f p) fs
   turn-seats Taking = passes-seats (turn_step Taking p) (look-passes Taking p tt)
@@ -175,7 +175,16 @@ module _ (fs : List Frame) (p : Pool) (s : Seats fs) where
       each false = (tt, s)
   turn-seats (Clearing x) = done-seats _ p fs s
   turn-seats (Serving x) = done-seats _ p fs s
-  turn-seats (Closing v) = done-seats _ p fs s
+  turn-seats (Parting c v) = done-seats _ p fs s
+  turn-seats (Closing v) = each p.turning
+    where
+      parts : (c : Obj) (b : Bool) → LeadsSeats (parting_step c v b p) fs
+      parts c true = (tt, (tt, s))
+      parts c false = done-seats _ (exit p c) fs s
+
+      each : (o : Option Obj) → LeadsSeats (closing_step v o p) fs
+      each None = done-seats _ p fs s
+      each (Some c) = parts c (is_doomed p c)
 
   -- ---- requests
 
@@ -215,7 +224,11 @@ module _ (fs : List Frame) (p : Pool) (s : Seats fs) where
 
       each : (o : Option Note) → LeadsSeats (notifying_step x errand o p) fs
       each None = (tt, s)
-      each (Some n) = by_test n.deferred (λ t. rw t (tt, s)) (λ t. rw t (back n.callback))
+      each (Some n) = deferred n.deferred
+        where
+          deferred : (o : Option Obj) → LeadsSeats (deferred_step x errand o n.callback p) fs
+          deferred (Some c) = (tt, s)
+          deferred None = back n.callback
   request-seats (request.Calling v x handler errand) w = (w, s)
   request-seats (request.Called v x handler errand) w = ((λ e. absurd (w e)), (w, s))
   request-seats (request.Releasing c) w = done-seats _ p fs s
@@ -241,9 +254,9 @@ module _ (fs : List Frame) (p : Pool) (s : Seats fs) where
   plan-seats q (Unlinks o x) w = (tt, (w, s))
   plan-seats q (Empties x) w = (tt, (w, s))
   plan-seats q (Asks o) w = (tt, (w, s))
-  plan-seats ask.Quiet Turns w = (tt, (tt, s))
-  plan-seats (ask.Routine m) Turns w = (w, s)
-  plan-seats _ Turns w = (tt, s)
+  plan-seats ask.Quiet (Turns c) w = (tt, (tt, s))
+  plan-seats (ask.Routine m) (Turns c) w = (w, s)
+  plan-seats _ (Turns c) w = (tt, s)
   plan-seats q (Works c errand x) w = (errand-seat errand x _, (w, s))
 
   asked-seats : (q : Ask) (g : Frame) → Heard q g → SeatBy (Some q) fs → Seats (g ∷ fs)
@@ -262,7 +275,7 @@ module _ (fs : List Frame) (p : Pool) (s : Seats fs) where
   step-seats (frame.Outside (Opening n)) w = done-seats _ (open_descriptor p n) fs s
   step-seats (frame.Outside (Hearing r)) w = done-seats _ p fs s
   step-seats (frame.Call (Asking q)) w = λ i g h. asked-seats q g (heard-leads q i g h) w
-  step-seats (frame.Call (Doing q c)) w = plan-seats q (planned p c) w
+  step-seats (frame.Call (Doing q c)) w = plan-seats q (planned_at q p c) w
   step-seats (frame.Call (Announcing q notice r)) w = (w, s)
   step-seats (frame.Call (Telling q r)) w = (w, s)
   step-seats (frame.Call (Awaiting q x)) w = done-seats _ p fs s

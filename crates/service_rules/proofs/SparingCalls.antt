@@ -6,6 +6,7 @@ use Rattle.tree_specs.specs.declared.object.Owner.{Owner}
 use Rattle.tree_specs.specs.declared.object.Owner.TheVariants.{Of}
 use Rattle.tree_specs.specs.declared.kind.Kind.TheVariants as kind
 use Rattle.tree_specs.specs.declared.row.Row.{Row}
+use Rattle.tree_specs.specs.declared.row.Mark.TheVariants as mark
 use Rattle.tree_specs.specs.declared.request.Note.{Note}
 use Rattle.tree_specs.specs.declared.call.Call.{Call}
 use Rattle.tree_specs.specs.declared.call.Call.TheVariants as call
@@ -17,21 +18,21 @@ use Rattle.tree_specs.specs.declared.frame.CallFrame.TheVariants.{Requesting}
 use Rattle.tree_specs.specs.declared.frame.Errand.{Errand}
 use Rattle.tree_specs.specs.declared.frame.Errand.TheVariants.{Finish, Notify, Receive, Cancel}
 use Rattle.tree_specs.specs.declared.watch.Watch.{Watch}
-use Rattle.tree_specs.specs.Words.Objects.{same}
+use Rattle.tree_specs.specs.Words.Objects.{same, first_context}
 use Rattle.tree_specs.specs.Tree.Targets.{newest_ref}
-use Rattle.tree_specs.specs.Tree.Pool.{Pool, row_of, new_row, hooked_row, named_row, sized_row, limited_row}
+use Rattle.tree_specs.specs.Tree.Pool.{Pool, row_of, new_row, edited, enter, marked_row, hooked_row, named_row, sized_row, limited_row}
 use Rattle.tree_specs.specs.Events.Queues.{runs as runs_queue}
 use Rattle.tree_specs.specs.Events.Requests.{note_of, with_note, new_note}
-use Rattle.tree_specs.specs.Events.Rotation.{watch_of, watched}
-use Rattle.tree_specs.specs.Calls.Refusals.{Check, refusals}
-use Rattle.tree_specs.specs.Calls.Plans.{Change, Plan, plan, planned, unless_refused, changed_by, frees}
-use Rattle.tree_specs.specs.Calls.Plans.Change.{Nothing, Edit, Add, Place, Handle, Schedule, Unschedule, Arm, Watches, Rewatch, Close, TakeNumber, AddRequest, Renotes, Runs, AddQueue, AddEntry, LooksAt, Then}
+use Rattle.tree_specs.specs.Events.Rotation.{watch_of}
+use Rattle.tree_specs.specs.Calls.Refusals.{Check, refusals_at}
+use Rattle.tree_specs.specs.Calls.Plans.{Change, Plan, plan, planned_at, unless_refused, changed_by, frees}
+use Rattle.tree_specs.specs.Calls.Plans.Change.{Nothing, Edit, Add, Place, Handle, Schedule, Unschedule, Arm, Watches, Rewatch, Close, TakeNumber, AddRequest, Renotes, Runs, AddQueue, AddEntry, LooksAt, Enter, Then}
 use Rattle.tree_specs.specs.Calls.Plans.Plan.{Does, Frees, Unlinks, Empties, Asks, Turns, Works}
 use Rattle.tree_specs.specs.Machine.Table.{plan_step, work_of}
 use Rattle.tree_specs.proofs.Tree.Numbered.{by_test, same-false, same_or_not}
 use Rattle.tree_specs.proofs.Events.NoteLaws.{noted-same, noted-other}
 use Rattle.service_rules.proofs.Calling.{next-rises}
-use Rattle.service_rules.proofs.Tending.{Tended, tended-on, tended-edited, tended-other, tended-placed, no-more, notes-renoted, rewatched-of}
+use Rattle.service_rules.proofs.Tending.{Tended, before-others, tended-on, tended-edited, tended-other, tended-placed, no-more, notes-renoted, rewatched-of}
 use Rattle.service_rules.proofs.Sparing.{AllSpare, Tends, LeadsTends}
 
 module _ (e k : Obj) (fd : ℕ) where
@@ -81,16 +82,19 @@ module _ (e k : Obj) (fd : ℕ) where
     ];
   }
 
-  pushed : (ws : List Watch) (w : Watch) → watch_of ws e ≡ Some w → (x : Obj) (n flags : ℕ) → watch_of (watched ws x n flags) e ≡ Some w
-  pushed [] w h x n flags = cc
-  pushed (u ∷ ws) w h x n flags = by_test (same u.object e) (λ a. let h' : Some u ≡ Some w = rw a at h in rw a h') (λ a. rw a (pushed ws w (rw a at h) x n flags))
+  -- a turn of a context begins
+  entered : (p : Pool) (c : Obj) → Tended e k fd p → Tended e k fd (enter p c)
+  entered p c t = by_test (same c first_context) (λ b. rw b t) (λ b. rw b (marked (apart p (record p { turning = Some c }) t refl refl refl)))
+    where
+      marked : Tended e k fd (record p { turning = Some c }) → Tended e k fd (edited (record p { turning = Some c }) c (marked_row mark.Busy))
+      marked t' = tended-edited e k fd (record p { turning = Some c }) t' (marked_row mark.Busy) c (λ r. refl) (λ r. refl) (λ r h. h) (λ r. refl)
 
   pub change-tended : (c : Change) (p : Pool) → e.0 < p.next → SparesChange c → Tended e k fd p → Tended e k fd (changed_by c p)
   change-tended (Edit x g) p young (inl s) t = tended-edited e k fd p t g x s.serial s.kind s.hook s.owner
   change-tended (Edit x g) p young (inr s) t = tended-other e k fd p t g x s.0 s.1
   change-tended (Add sort o size name) p young s t = apart p (changed_by (Add sort o size name) p) t (older p.next p.rows (new_row (record { 0 = p.next }) sort o size name) refl young) refl refl
   change-tended (Place o x) p young s t = tended-placed e k fd p t o x s
-  change-tended (Watches x n flags) p young s t = tended-on e k fd p t (changed_by (Watches x n flags) p) refl (pushed p.ring t.watch t.watches x n flags ∙ sym t.watches) (no-more e k fd p t (changed_by (Watches x n flags) p) refl)
+  change-tended (Watches x n flags c) p young s t = tended-on e k fd p t (changed_by (Watches x n flags c) p) refl (before-others e k fd p t p.ring t.watch t.watches _ ∙ sym t.watches) (no-more e k fd p t (changed_by (Watches x n flags c) p) refl)
   change-tended (Rewatch x g) p young s t =
       let w = rewatched-of e k fd p t g x s.0 s.1 in
       record { row = t.row; is = t.is; kind = t.kind; hook = t.hook; owner = t.owner; watch = w.0; watches = w.1; on = w.2; apart = t.apart }
@@ -101,13 +105,14 @@ module _ (e k : Obj) (fd : ℕ) where
   change-tended (Then first second) p young s t = let r = next-rises first p in change-tended second (changed_by first p) (omega (arith, young, r)) s.1 (change-tended first p young s.0 t)
   change-tended Nothing p young s t = t
   change-tended (Handle x handler) p young s t = apart p (changed_by (Handle x handler) p) t refl refl refl
-  change-tended (Schedule x) p young s t = apart p (changed_by (Schedule x) p) t refl refl refl
+  change-tended (Schedule x c) p young s t = apart p (changed_by (Schedule x c) p) t refl refl refl
   change-tended (Unschedule x) p young s t = apart p (changed_by (Unschedule x) p) t refl refl refl
-  change-tended (Arm x time number) p young s t = apart p (changed_by (Arm x time number) p) t refl refl refl
+  change-tended (Arm x time number c) p young s t = apart p (changed_by (Arm x time number c) p) t refl refl refl
   change-tended (Close n) p young s t = apart p (changed_by (Close n) p) t refl refl refl
   change-tended TakeNumber p young s t = apart p (changed_by TakeNumber p) t refl refl refl
   change-tended (Runs q running) p young s t = apart p (changed_by (Runs q running) p) t refl refl refl
   change-tended (LooksAt q) p young s t = apart p (changed_by (LooksAt q) p) t refl refl refl
+  change-tended (Enter c) p young s t = entered p c t
 
   -- ---- calls
 
@@ -149,22 +154,22 @@ module _ (e k : Obj) (fd : ℕ) where
   plan-spares p (call.Rename x name) s = inl (kept-row (named_row name) (λ r. refl) (λ r. refl) (λ r h. h) (λ r. refl))
   plan-spares p (call.Resize x size) s = inl (kept-row (sized_row size) (λ r. refl) (λ r. refl) (λ r h. h) (λ r. refl))
   plan-spares p (call.Limit x max) s = inl (kept-row (limited_row max) (λ r. refl) (λ r. refl) (λ r h. h) (λ r. refl))
-  plan-spares p (call.Schedule x routine user) s = by_test (nat_eq routine 0) (λ b. rw b tt) (λ b. rw b (tt, tt))
-  plan-spares p (call.Timer o time routine user) s = (tt, (tt, tt))
-  plan-spares p (call.Fd o n flags routine user) s = (tt, (tt, tt))
+  plan-spares p (call.Schedule x routine user c) s = by_test (nat_eq routine 0) (λ b. rw b tt) (λ b. rw b (tt, tt))
+  plan-spares p (call.Timer o time routine user c) s = (tt, (tt, tt))
+  plan-spares p (call.Fd o n flags routine user c) s = (tt, (tt, tt))
   plan-spares p (call.Flags x flags) s = ((λ w. refl), (λ w. refl))
   plan-spares p (call.Autoclose x) s = ((λ w. refl), (λ w. refl))
   plan-spares p (call.Callback x routine user) s = λ n. refl
-  plan-spares p (call.Defer x) s = λ n. refl
+  plan-spares p (call.Defer x c) s = λ n. refl
   plan-spares p (call.Cleanup x routine) s = λ n. refl
   plan-spares p (call.Setcancel x routine) s = λ n. refl
   plan-spares p (call.Error x error) s = by_test (nat_eq error 0) (λ b. rw b tt) (λ b. rw b (λ n. refl))
-  plan-spares p (call.Endtime x time) s = (tt, tt)
+  plan-spares p (call.Endtime x time c) s = (tt, tt)
   plan-spares p (call.Start q) s = by_test (runs_queue p.queues q) (λ b. rw b tt) (λ b. rw b (tt, tt))
   plan-spares p _ s = tt
 
-  planned-spares : (p : Pool) (c : Call) → SparesCall c → SparesPlan (planned p c)
-  planned-spares p c s = each (refusals p c)
+  planned-spares : (q : Ask) (p : Pool) (c : Call) → SparesCall c → SparesPlan (planned_at q p c)
+  planned-spares q p c s = each (refusals_at q p c)
     where
       each : (check : Check) → SparesPlan (unless_refused check (plan p c))
       each [] = plan-spares p c s
@@ -184,9 +189,9 @@ module _ (e k : Obj) (fd : ℕ) where
     step-spares q (Unlinks o x) s = inl (t, (s, (tt, spare)))
     step-spares q (Empties x) s = absurd s
     step-spares q (Asks o) s = inl (t, (tt, (tt, spare)))
-    step-spares ask.Quiet Turns s = inl (t, (tt, (tt, spare)))
-    step-spares _ Turns s = inl (t, (tt, spare))
+    step-spares ask.Quiet (Turns c) s = inl (entered p c t, (tt, (tt, spare)))
+    step-spares _ (Turns c) s = inl (t, (tt, spare))
     step-spares q (Works c errand x) s = errand-tends errand x (frame.Call (Requesting q)) (changed_by c p) (change-tended c p young s t) (tt, spare)
 
-    pub call-spares : (q : Ask) (c : Call) → SparesCall c → LeadsTends e k fd (plan_step q (planned p c) p) fs
-    call-spares q c s = step-spares q (planned p c) (planned-spares p c s)
+    pub call-spares : (q : Ask) (c : Call) → SparesCall c → LeadsTends e k fd (plan_step q (planned_at q p c) p) fs
+    call-spares q c s = step-spares q (planned_at q p c) (planned-spares q p c s)

@@ -24,6 +24,7 @@ use Rattle.tree_specs.specs.Events.Rotation.{closes_with}
 use Rattle.tree_specs.specs.Calls.Refusals.{is_request, is_queue}
 use Rattle.tree_specs.specs.Machine.FreeTable.{free_step, begin_step, begin_by, unlink_step, release_step, refs_step, loop_step, last_step, child_step, tried_step, hand_on_step}
 use Rattle.tree_specs.specs.Machine.Table.{lifted, announced, closed_event}
+use Rattle.tree_specs.specs.Invariants.Awaiting.{AreDistinct}
 use Rattle.tree_specs.specs.Invariants.Consistent.{IsConsistent}
 use Rattle.tree_specs.proofs.Tree.Numbered.{by_test, same_or_not}
 use Rattle.tree_specs.proofs.Tree.Rows.{first_kid-owner}
@@ -70,7 +71,7 @@ module _ (e k : Obj) (fd : ℕ) (fs : List Frame) (p : Pool) where
 
   -- ---- others are freed
 
-  module _ (t : Tended e k fd p) (spare : AllSpare e k fs) (distinct : Distinct p.rows) where
+  module _ (t : Tended e k fd p) (spare : AllSpare e k fs) (distinct : Distinct p.rows) (watched : AreDistinct p.ring) where
     still : (q : FreeFrame) (r : Pool) → Tended e k fd r → SparesFree e k q → Tends e k fd (frame.Free q) fs r
     still q r t' s = inl (t', (s, spare))
 
@@ -102,8 +103,8 @@ module _ (e k : Obj) (fd : ℕ) (fs : List Frame) (p : Pool) where
     begin-spares x (Some r) ne = each r.mark
       where
         doomed : (o : Option ℕ) → LeadsTends e k fd (announced (closed_event o) (Dooming x) (doom p x)) fs
-        doomed None = still (Dooming x) (doom p x) (tended-gone e k fd p t (marked_row mark.Doomed) x (λ r. refl) ne) ne
-        doomed (Some n) = still (Dooming x) (doom p x) (tended-gone e k fd p t (marked_row mark.Doomed) x (λ r. refl) ne) ne
+        doomed None = still (Dooming x) (doom p x) (tended-gone e k fd p t (marked_row mark.Doomed) x (λ r. refl) watched ne) ne
+        doomed (Some n) = still (Dooming x) (doom p x) (tended-gone e k fd p t (marked_row mark.Doomed) x (λ r. refl) watched ne) ne
 
         each : (m : Mark) → LeadsTends e k fd (lifted p.ring (begin_by x r.kind r.hook m p)) fs
         each mark.Quiet = by_test (is_request r.kind)
@@ -177,8 +178,8 @@ module _ (e k : Obj) (fd : ℕ) (fs : List Frame) (p : Pool) where
     spared-tends (Leaving x h) s = left (closes_with p.ring x)
       where
         left : (o : Option ℕ) → LeadsTends e k fd (announced (closed_event o) (Looping x (Removal h)) (detach p x)) fs
-        left None = still (Looping x (Removal h)) (detach p x) (tended-gone e k fd p t left_row x (λ r. refl) s) (s, tt)
-        left (Some n) = still (Looping x (Removal h)) (detach p x) (tended-gone e k fd p t left_row x (λ r. refl) s) (s, tt)
+        left None = still (Looping x (Removal h)) (detach p x) (tended-gone e k fd p t left_row x (λ r. refl) watched s) (s, tt)
+        left (Some n) = still (Looping x (Removal h)) (detach p x) (tended-gone e k fd p t left_row x (λ r. refl) watched s) (s, tt)
     spared-tends (Looping x purpose) s = looping-spares x purpose s.0 s.1
     spared-tends (FreeingChild x c noted purpose) s = done-tends e k fd _ p fs (inl (t, spare))
     spared-tends (AfterChild x c noted purpose a) s = each a
@@ -196,6 +197,6 @@ module _ (e k : Obj) (fd : ℕ) (fs : List Frame) (p : Pool) where
     spared-tends (Ending a) s = done-tends e k fd _ p fs (inl (t, spare))
 
   pub free-tends : (f : FreeFrame) → IsConsistent (record { innermost = frame.Free f; below = fs; pool = p }) → Tends e k fd (frame.Free f) fs p → Leads f
-  free-tends f whole (inl w) = spared-tends w.0 w.1.1 whole.sound.forest.distinct f w.1.0
+  free-tends f whole (inl w) = spared-tends w.0 w.1.1 whole.sound.forest.distinct whole.awaits.distinct f w.1.0
   free-tends f whole (inr (inl r)) = removes-tends f whole r
   free-tends f whole (inr (inr r)) = below-tends e k fd (lifted p.ring (free_step f p)) fs r

@@ -10,7 +10,7 @@ use Rattle.tree_specs.specs.declared.frame.CallFrame.TheVariants.{Asking, Doing,
 use Rattle.tree_specs.specs.declared.frame.OutsideFrame.{OutsideFrame}
 use Rattle.tree_specs.specs.declared.frame.OutsideFrame.TheVariants.{Reaching, Opening, Hearing}
 use Rattle.tree_specs.specs.Tree.Pool.{Pool, open_descriptor}
-use Rattle.tree_specs.specs.Calls.Plans.{planned}
+use Rattle.tree_specs.specs.Calls.Plans.{planned_at}
 use Rattle.tree_specs.specs.Rules.Pieces.{notice_event}
 use Rattle.tree_specs.specs.Machine.Table.{step, plan_step}
 use Rattle.tree_specs.specs.Invariants.Consistent.{IsConsistent}
@@ -57,9 +57,9 @@ module _ (e k : Obj) (fd : ℕ) (fs : List Frame) (p : Pool) where
   reached-tends _ (ReachedOpening n number closed) w = outside-on (Opening n) w
   reached-tends _ (ReachedHearing r) w = outside-on (Hearing r) w
 
-  doing-tends : (q : Ask) (c : Call) → e.0 < p.next → (Tended e k fd p → SparesCall e k fd c) → Under → LeadsTends e k fd (plan_step q (planned p c) p) fs
+  doing-tends : (q : Ask) (c : Call) → e.0 < p.next → (Tended e k fd p → SparesCall e k fd c) → Under → LeadsTends e k fd (plan_step q (planned_at q p c) p) fs
   doing-tends q c young spares (inl w) = call-spares e k fd fs p young w.0 w.1 q c (spares w.0)
-  doing-tends q c young spares (inr r) = below-tends e k fd (plan_step q (planned p c) p) fs r
+  doing-tends q c young spares (inr r) = below-tends e k fd (plan_step q (planned_at q p c) p) fs r
 
   opened : (n : ℕ) → Under → (Tended e k fd (open_descriptor p n) × AllSpare e k fs) ⊎ Removing e k fs
   opened n (inl w) = inl (tended-on e k fd p w.0 (open_descriptor p n) refl refl (no-more e k fd p w.0 (open_descriptor p n) refl), w.1)

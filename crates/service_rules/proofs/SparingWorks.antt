@@ -5,6 +5,7 @@ use Rattle.tree_specs.specs.declared.object.Obj.{Obj}
 use Rattle.tree_specs.specs.declared.kind.Kind.TheVariants as kind
 use Rattle.tree_specs.specs.declared.row.Row.{Row}
 use Rattle.tree_specs.specs.declared.row.Mark.TheVariants as mark
+use Rattle.tree_specs.specs.declared.coming.Coming.{Coming}
 use Rattle.tree_specs.specs.declared.due.Due.{Due}
 use Rattle.tree_specs.specs.declared.call.Call.TheVariants as call
 use Rattle.tree_specs.specs.declared.handler.Handler.{Handler}
@@ -15,12 +16,12 @@ use Rattle.tree_specs.specs.declared.moment.What.TheVariants as what
 use Rattle.tree_specs.specs.declared.frame.Frame.{Frame}
 use Rattle.tree_specs.specs.declared.frame.Frame.TheVariants as frame
 use Rattle.tree_specs.specs.declared.frame.TurnFrame.{TurnFrame}
-use Rattle.tree_specs.specs.declared.frame.TurnFrame.TheVariants.{Taking, Timing, Timed, Polling, Starting, Firing, Handling, Handled, Clearing, Serving, Closing}
+use Rattle.tree_specs.specs.declared.frame.TurnFrame.TheVariants.{Taking, Timing, Timed, Polling, Starting, Firing, Handling, Handled, Clearing, Serving, Parting, Closing}
 use Rattle.tree_specs.specs.declared.frame.RequestFrame.{RequestFrame}
 use Rattle.tree_specs.specs.declared.frame.RequestFrame.TheVariants as request
 use Rattle.tree_specs.specs.declared.frame.Errand.{Errand}
 use Rattle.tree_specs.specs.declared.frame.Errand.TheVariants.{Finish, Notify, Receive, Cancel}
-use Rattle.tree_specs.specs.Tree.Pool.{Pool, row_of, set_mark, marked_row, schedule, unschedule, disarm, renote, finish, receive, run_queue, trigger}
+use Rattle.tree_specs.specs.Tree.Pool.{Pool, row_of, is_usable, soon_here, times_here, exit, set_mark, marked_row, schedule, unschedule, disarm, renote, finish, receive, run_queue, trigger}
 use Rattle.tree_specs.specs.Tree.Targets.{newest_ref}
 use Rattle.tree_specs.specs.Calls.Refusals.{Check, refusals, is_entry, is_doomed, is_doomed_mark}
 use Rattle.tree_specs.specs.Calls.Plans.{unless_refused, frees}
@@ -29,8 +30,10 @@ use Rattle.tree_specs.specs.Events.Pending.{first}
 use Rattle.tree_specs.specs.Events.Queues.{Head, has_queue, head_of, next_of}
 use Rattle.tree_specs.specs.Events.Requests.{note_of, is_noted, is_unreceived, cleanup_in, cancel_in, cleaned, not_deferring, in_state}
 use Rattle.tree_specs.specs.Events.Rotation.{watch_of, is_watching}
-use Rattle.tree_specs.specs.Machine.Table.{work_of, due_now, due_step, taking_step, early_step, timed_step, starting_step, handled_step, turn_step, cancelling_step, cleaning_step, release_object, cleaned_step, callback_step, notifying_step, receiving_step, vacating_step, triggering_step, request_step}
+use Rattle.tree_specs.specs.Machine.Table.{work_of, due_now, due_step, taking_step, early_step, timed_step, starting_step, handled_step, turn_step, cancelling_step, cleaning_step, release_object, cleaned_step, callback_step, notifying_step, receiving_step, vacating_step, triggering_step, deferred_step, parting_step, closing_step, request_step}
 use Rattle.tree_specs.specs.Machine.Profiles.{turn_profile}
+use Rattle.tree_specs.specs.Tree.Targets.{is_context}
+use Rattle.tree_specs.specs.Invariants.Sound.{IsTurning, TurnedAt}
 use Rattle.tree_specs.specs.Invariants.Consistent.{IsConsistent}
 use Rattle.tree_specs.specs.Invariants.Awaiting.{MayCome}
 use Rattle.tree_specs.specs.Invariants.Queued.{IsEntryRow}
@@ -72,16 +75,16 @@ module _ (e k : Obj) (fd : ℕ) (fs : List Frame) (p : Pool) where
         early true = inl (t, (tt, spare))
         early false = inl (t, (tt, spare))
 
-    taking-spares : (o : Option Obj) → LeadsTends e k fd (taking_step o p) fs
-    taking-spares None = due (first p.times)
+    taking-spares : (o : Option Coming) → LeadsTends e k fd (taking_step o p) fs
+    taking-spares None = due (first (times_here p))
       where
         due : (o : Option Due) → LeadsTends e k fd (due_step o p) fs
         due None = inl (t, (tt, spare))
         due (Some d) = by_test (nat_eq d.time 0) (λ b. rw b (due-spares d.object 0)) (λ b. rw b (inl (t, (tt, spare))))
-    taking-spares (Some x) = let t' = apart (unschedule p x) refl refl refl in
-        by_test (is_noted p.requests x)
+    taking-spares (Some y) = let t' = apart (unschedule p y.object) refl refl refl in
+        by_test (is_noted p.requests y.object)
         (λ b. rw b (inl (t', (tt, (tt, spare)))))
-        (λ b. rw b (by_test (has_queue p.queues x) (λ c. rw c (inl (t', (tt, (tt, spare))))) (λ c. rw c (inl (t', (tt, spare))))))
+        (λ b. rw b (by_test (has_queue p.queues y.object) (λ c. rw c (inl (t', (tt, (tt, spare))))) (λ c. rw c (inl (t', (tt, spare))))))
 
     begun-tended : (w : What) (x : Obj) → Tended e k fd (begun w x p)
     begun-tended what.Descriptor x =
@@ -121,6 +124,13 @@ module _ (e k : Obj) (fd : ℕ) (fs : List Frame) (p : Pool) where
     goes-other : (f : Frame) (w : What) (x : Obj) → Whole f → (is_once w ≡ true → x ≢ e) → goes_after p w x ≡ true → x ≢ e
     goes-other f w x whole once g = by_test (is_once w) once (λ b. let d : is_doomed p x ≡ true = rw b at g in doomed-other f x whole d)
 
+    -- a context is another object
+    context-other : (c : Obj) → IsTurning (row_of p.rows c) → c ≢ e
+    context-other c turns same =
+        let i : IsTurning (row_of p.rows e) = subst (λ (z : Obj). IsTurning (row_of p.rows z)) same turns in
+        let j : IsTurning (Some t.row) = subst IsTurning t.is i in
+        let l : is_context kind.Descriptor ≡ true = ap is_context (sym t.kind) ∙ j.0 in cc
+
     -- a work that says nothing of an object
     plain-spares : (g : TurnFrame) → (turn_profile g).claims ≡ None → SparesTurn e k g
     plain-spares (Firing w x handler occasion) c = cc
@@ -129,9 +139,9 @@ module _ (e k : Obj) (fd : ℕ) (fs : List Frame) (p : Pool) where
     plain-spares _ c = tt
 
     pub turn-spares : (f : TurnFrame) → Whole (frame.Turn f) → Spares e k (frame.Turn f) → LeadsTends e k fd (turn_step f p) fs
-    turn-spares Taking whole s = taking-spares (first p.soon)
+    turn-spares Taking whole s = taking-spares (first (soon_here p))
     turn-spares (Timing again) whole s = λ i g h. let a = taken-plain (Timing again) p i g h in subst (λ (z : Frame). Tends e k fd z fs p) (sym a.1) (inl (t, (plain-spares a.0 a.2.claims, spare)))
-    turn-spares (Timed again now) whole s = timed-spares again now (first p.times)
+    turn-spares (Timed again now) whole s = timed-spares again now (first (times_here p))
     turn-spares (Polling limit) whole s = λ i g h. let a = taken-plain (Polling limit) p i g h in subst (λ (z : Frame). Tends e k fd z fs p) (sym a.1) (inl (t, (plain-spares a.0 a.2.claims, spare)))
     turn-spares (Starting w x occasion) whole s = each (handler_for p w x) refl
       where
@@ -150,7 +160,21 @@ module _ (e k : Obj) (fd : ℕ) (fs : List Frame) (p : Pool) where
         each false is = inl (quiet, (tt, spare))
     turn-spares (Clearing x) whole s = done-tends e k fd _ p fs (inl (t, spare))
     turn-spares (Serving x) whole s = done-tends e k fd _ p fs (inl (t, spare))
-    turn-spares (Closing v) whole s = done-tends e k fd _ p fs (inl (t, spare))
+    turn-spares (Parting c v) whole s = done-tends e k fd _ p fs (inl (t, spare))
+    turn-spares (Closing v) whole s = each p.turning whole.sound.turned
+      where
+        exited : (c : Obj) → Tended e k fd (exit p c)
+        exited c =
+            let q : Pool = record p { turning = None } in
+            tended-edited e k fd q (apart q refl refl refl) (marked_row mark.Quiet) c (λ r. refl) (λ r. refl) (λ r h. h) (λ r. refl)
+
+        parts : (c : Obj) (b : Bool) → c ≢ e → LeadsTends e k fd (parting_step c v b p) fs
+        parts c true ne = inl (exited c, (ne, (tt, spare)))
+        parts c false ne = done-tends e k fd _ (exit p c) fs (inl (exited c, spare))
+
+        each : (o : Option Obj) → TurnedAt o p.rows → LeadsTends e k fd (closing_step v o p) fs
+        each None turns = done-tends e k fd _ p fs (inl (t, spare))
+        each (Some c) turns = parts c (is_doomed p c) (context-other c turns)
 
     -- ---- requests
 
@@ -197,9 +221,13 @@ module _ (e k : Obj) (fd : ℕ) (fs : List Frame) (p : Pool) where
 
         each : (o : Option Note) → LeadsTends e k fd (notifying_step x errand o p) fs
         each None = inl (t, (tt, spare))
-        each (Some n) = by_test n.deferred
-            (λ b. rw b (inl (noted not_deferring (schedule (renote p x not_deferring) x) x refl refl (λ n. refl) refl, (tt, spare))))
-            (λ b. rw b (back n.callback))
+        each (Some n) = deferred n.deferred
+          where
+            deferred : (o : Option Obj) → LeadsTends e k fd (deferred_step x errand o n.callback p) fs
+            deferred (Some c) = by_test (is_usable p.rows c)
+                (λ b. rw b (inl (noted not_deferring (schedule (renote p x not_deferring) x c) x refl refl (λ n. refl) refl, (tt, spare))))
+                (λ b. rw b (inl (noted not_deferring (renote p x not_deferring) x refl refl (λ n. refl) refl, (tt, spare))))
+            deferred None = back n.callback
     request-spares (request.Calling w x handler errand) whole = inl (t, (tt, spare))
     request-spares (request.Called w x handler errand) whole = inl (t, (tt, (tt, spare)))
     request-spares (request.Releasing c) whole = done-tends e k fd _ p fs (inl (t, spare))

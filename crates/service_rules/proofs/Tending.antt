@@ -1,5 +1,7 @@
 -- An event that watches a descriptor below its owner: which changes of a pool leave it so.
-use Rattle.std.proofs.Common.{◌≡◌, ◌≢◌, ℕ, true, false, List, [], ◌∷◌, ◌++◌, Option, Some, None, refl, sym, ◌∙◌, ap, subst, inl, inr}
+use Rattle.std.proofs.Common.{◌≡◌, ◌≢◌, ℕ, true, false, not, List, [], ◌∷◌, ◌++◌, Option, Some, None, refl, sym, ◌∙◌, ap, subst, inl, inr}
+use Rattle.std.specs.Prelude.{is_some, map}
+use Rattle.std.specs.List.{filter}
 use Rattle.tree_specs.specs.declared.object.Obj.{Obj}
 use Rattle.tree_specs.specs.declared.object.Owner.{Owner}
 use Rattle.tree_specs.specs.declared.object.Owner.TheVariants.{Of}
@@ -7,12 +9,14 @@ use Rattle.tree_specs.specs.declared.kind.Kind.TheVariants.{Descriptor}
 use Rattle.tree_specs.specs.declared.row.Row.{Row}
 use Rattle.tree_specs.specs.declared.request.Note.{Note}
 use Rattle.tree_specs.specs.declared.watch.Watch.{Watch}
-use Rattle.tree_specs.specs.Words.Objects.{same}
+use Rattle.tree_specs.specs.Words.Objects.{same, is_same}
 use Rattle.tree_specs.specs.Tree.Pool.{Pool, row_of, changed, remove, place, let_go, edited}
-use Rattle.tree_specs.specs.Events.Rotation.{watch_of, unwatched, turned_back, behind_all, rewatched}
+use Rattle.tree_specs.specs.Events.Rotation.{watch_of, is_watching, unwatched, turned_back, behind_all, rewatched, lost, ring_in, ring_without}
 use Rattle.tree_specs.specs.Events.Requests.{note_of, without_note, renoted}
 use Rattle.tree_specs.proofs.Tree.Numbered.{by_test, same-true, same-equal, same-false, same_or_not}
 use Rattle.tree_specs.proofs.Tree.Rows.{row_of-changed-other, row_of-changed-same, row_of-without-other, row_of-placed-other}
+use Rattle.tree_specs.specs.Invariants.Awaiting.{AreDistinct}
+use Rattle.tree_specs.proofs.Events.RotationLaws.{unwatched-distinct}
 use Rattle.tree_specs.proofs.Events.NoteLaws.{forgotten-same, forgotten-other, renoted-same, renoted-none, renoted-other}
 
 pub record Tended (e k : Obj) (fd : ℕ) (p : Pool) : Type 0 where
@@ -75,8 +79,72 @@ module _ (e k : Obj) (fd : ℕ) (p : Pool) (t : Tended e k fd p) where
       (λ a. let b : same w.object e ≡ false = same-false w.object e (λ i. ne (sym (same-true w.object x a) ∙ i)) in rw (a, b) (unwatched-of ws x ne))
       (λ a. by_test (same w.object e) (λ b. rw (a, b) refl) (λ b. rw (a, b) (unwatched-of ws x ne)))
 
-  pub tended-gone : (g : Row → Row) (x : Obj) → ((r : Row) → (g r).serial ≡ r.serial) → x ≢ e → Tended e k fd (let_go p x g)
-  tended-gone g x serial ne = tended-on (let_go p x g) (row_of-changed-other g p.rows x e serial ne) (unwatched-of p.ring x ne) (no-more (let_go p x g) refl)
+  -- what watches stands before what is put behind it
+  pub before-others : (ws : List Watch) (w : Watch) → watch_of ws e ≡ Some w → (vs : List Watch) → watch_of (ws ++ vs) e ≡ Some w
+  before-others [] w h vs = cc
+  before-others (u ∷ ws) w h vs = by_test (same u.object e) (λ a. let h' : Some u ≡ Some w = rw a at h in rw a h') (λ a. rw a (before-others ws w (rw a at h) vs))
+
+  behind-others : (ws vs : List Watch) → watch_of ws e ≡ None → watch_of (ws ++ vs) e ≡ watch_of vs e
+  behind-others [] vs h = refl
+  behind-others (u ∷ ws) vs h = by_test (same u.object e) (λ a. let bad : Some u ≡ None = rw a at h in cc) (λ a. rw a (behind-others ws vs (rw a at h)))
+
+  abbrev others_than : Obj → List Watch → List Watch
+  others_than c ws = filter (λ w. not (is_same w.context c)) ws
+
+  none-of : (ws : List Watch) (c : Obj) → watch_of ws e ≡ None → watch_of (others_than c ws) e ≡ None
+  none-of [] c h = refl
+  none-of (u ∷ ws) c h = by_test (same u.object e)
+      (λ a. let bad : Some u ≡ None = rw a at h in cc)
+      (λ a. let h' : watch_of ws e ≡ None = rw a at h in by_test (is_same u.context c) (λ b. rw b (none-of ws c h')) (λ b. rw b (rw a (none-of ws c h'))))
+
+  -- an event of another context stays
+  stays-of : (ws : List Watch) (c : Obj) (w : Watch) → watch_of ws e ≡ Some w → is_same w.context c ≡ false → watch_of (others_than c ws) e ≡ Some w
+  stays-of [] c w h other = cc
+  stays-of (u ∷ ws) c w h other = by_test (same u.object e)
+      (λ a. let h' : Some u ≡ Some w = rw a at h in let is : u ≡ w = cc in let b : is_same u.context c ≡ false = ap (λ (z : Watch). is_same z.context c) is ∙ other in rw b (rw a h'))
+      (λ a. let h' : watch_of ws e ≡ Some w = rw a at h in by_test (is_same u.context c) (λ b. rw b (stays-of ws c w h' other)) (λ b. rw b (rw a (stays-of ws c w h' other))))
+
+  -- and one of this context is lost
+  goes-of : (ws : List Watch) (c : Obj) (w : Watch) → AreDistinct ws → watch_of ws e ≡ Some w → is_same w.context c ≡ true → watch_of (others_than c ws) e ≡ None
+  goes-of [] c w d h here = cc
+  goes-of (u ∷ ws) c w d h here = by_test (same u.object e)
+      (λ a.
+      let h' : Some u ≡ Some w = rw a at h in
+      let is : u ≡ w = cc in
+      let b : is_same u.context c ≡ true = ap (λ (z : Watch). is_same z.context c) is ∙ here in
+      let alone : is_watching ws e ≡ false = subst (λ (z : Obj). is_watching ws z ≡ false) (same-true u.object e a) d.0 in
+      rw b (none-of ws c (unfound (watch_of ws e) alone)))
+      (λ a. let h' : watch_of ws e ≡ Some w = rw a at h in by_test (is_same u.context c) (λ b. rw b (goes-of ws c w d.2 h' here)) (λ b. rw b (rw a (goes-of ws c w d.2 h' here))))
+    where
+      unfound : (o : Option Watch) → is_some o ≡ false → o ≡ None
+      unfound None i = refl
+      unfound (Some v) i = cc
+
+  lost-of : (ws : List Watch) (c : Obj) (w : Watch) → watch_of ws e ≡ Some w → is_same w.context c ≡ true → watch_of (map lost (ring_in ws c)) e ≡ Some (lost w)
+  lost-of [] c w h here = cc
+  lost-of (u ∷ ws) c w h here = by_test (same u.object e)
+      (λ a. let h' : Some u ≡ Some w = rw a at h in let is : u ≡ w = cc in let b : is_same u.context c ≡ true = ap (λ (z : Watch). is_same z.context c) is ∙ here in rw b (rw a (ap (λ (z : Watch). Some (lost z)) is)))
+      (λ a. let h' : watch_of ws e ≡ Some w = rw a at h in by_test (is_same u.context c) (λ b. rw b (rw a (lost-of ws c w h' here))) (λ b. rw b (lost-of ws c w h' here)))
+
+  -- where a context goes, an event watches its descriptor as before
+  parted-of : (ws : List Watch) (c : Obj) (w : Watch) → AreDistinct ws → watch_of ws e ≡ Some w → (v : Watch) × (watch_of (ring_without ws c) e ≡ Some v) × (v.fd ≡ w.fd)
+  parted-of ws c w d h = by_test (is_same w.context c)
+      (λ here. (lost w, behind-others (others_than c ws) (map lost (ring_in ws c)) (goes-of ws c w d h here) ∙ lost-of ws c w h here, refl))
+      (λ other. (w, before-others (others_than c ws) w (stays-of ws c w h other) (map lost (ring_in ws c)), refl))
+
+  pub tended-gone : (g : Row → Row) (x : Obj) → ((r : Row) → (g r).serial ≡ r.serial) → AreDistinct p.ring → x ≢ e → Tended e k fd (let_go p x g)
+  tended-gone g x serial distinct ne =
+      let w = parted-of (unwatched p.ring x) x t.watch (unwatched-distinct p.ring x distinct) (unwatched-of p.ring x ne ∙ t.watches) in record {
+        row = t.row;
+        is = row_of-changed-other g p.rows x e serial ne ∙ t.is;
+        kind = t.kind;
+        hook = t.hook;
+        owner = t.owner;
+        watch = w.0;
+        watches = w.1;
+        on = w.2 ∙ t.on;
+        apart = t.apart;
+      }
 
   pub tended-removed : (x : Obj) → x ≢ e → Tended e k fd (remove p x)
   tended-removed x ne = tended-on (remove p x) (row_of-without-other p.rows x e ne) refl notes
@@ -120,10 +188,6 @@ module _ (e k : Obj) (fd : ℕ) (p : Pool) (t : Tended e k fd p) where
           (m, sym (ap (note_of p.requests) s) ∙ i, sym (ap (λ (z : Note). z.child) c') ∙ child m)
 
   -- an event goes to the end of the rotation
-  pushed-of : (ws : List Watch) (w : Watch) → watch_of ws e ≡ Some w → (v : Watch) → watch_of (ws ++ v ∷ []) e ≡ Some w
-  pushed-of [] w h v = cc
-  pushed-of (u ∷ ws) w h v = by_test (same u.object e) (λ a. let h' : Some u ≡ Some w = rw a at h in rw a h') (λ a. rw a (pushed-of ws w (rw a at h) v))
-
   alone-of : (ws : List Watch) (v : Watch) → v.object ≡ e → watch_of (unwatched ws e ++ v ∷ []) e ≡ Some v
   alone-of [] v is = rw (same-equal v.object e is) refl
   alone-of (u ∷ ws) v is = by_test (same u.object e) (λ a. rw a (alone-of ws v is)) (λ a. rw a (rw a (alone-of ws v is)))
@@ -146,7 +210,7 @@ module _ (e k : Obj) (fd : ℕ) (p : Pool) (t : Tended e k fd p) where
 
       there : x ≢ e → (o : Option Watch) → watch_of (behind_all (unwatched p.ring x) o) e ≡ watch_of p.ring e
       there ne None = unwatched-of p.ring x ne
-      there ne (Some v) = pushed-of (unwatched p.ring x) t.watch (unwatched-of p.ring x ne ∙ t.watches) v ∙ sym t.watches
+      there ne (Some v) = before-others (unwatched p.ring x) t.watch (unwatched-of p.ring x ne ∙ t.watches) (v ∷ []) ∙ sym t.watches
 
   -- how an event watches is changed, but for its descriptor
   pub rewatched-of : (g : Watch → Watch) (x : Obj) → ((w : Watch) → (g w).object ≡ w.object) → ((w : Watch) → (g w).fd ≡ w.fd) → (w : Watch) × (watch_of (rewatched g p.ring x) e ≡ Some w) × (w.fd ≡ fd)

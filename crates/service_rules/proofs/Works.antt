@@ -13,6 +13,7 @@ use Rattle.tree_specs.specs.declared.handler.Handler.{Handler}
 use Rattle.tree_specs.specs.declared.request.Note.{Note}
 use Rattle.tree_specs.specs.declared.event.Event.{Event}
 use Rattle.tree_specs.specs.declared.event.Event.TheVariants as event
+use Rattle.tree_specs.specs.declared.coming.Coming.{Coming}
 use Rattle.tree_specs.specs.declared.due.Due.{Due}
 use Rattle.tree_specs.specs.declared.question.Ask.TheVariants.{Routine, Clock, Wait}
 use Rattle.tree_specs.specs.declared.question.Input.{Input}
@@ -24,7 +25,7 @@ use Rattle.tree_specs.specs.declared.frame.FreeFrame.TheVariants.{Unlinking, Rel
 use Rattle.tree_specs.specs.declared.frame.Purpose.{Purpose}
 use Rattle.tree_specs.specs.declared.frame.Purpose.TheVariants.{Removal, Emptying}
 use Rattle.tree_specs.specs.declared.frame.TurnFrame.{TurnFrame}
-use Rattle.tree_specs.specs.declared.frame.TurnFrame.TheVariants.{Taking, Timing, Timed, Polling, Starting, Firing, Handling, Handled, Clearing, Serving, Closing}
+use Rattle.tree_specs.specs.declared.frame.TurnFrame.TheVariants.{Taking, Timing, Timed, Polling, Starting, Firing, Handling, Handled, Clearing, Serving, Parting, Closing}
 use Rattle.tree_specs.specs.declared.frame.RequestFrame.{RequestFrame}
 use Rattle.tree_specs.specs.declared.frame.RequestFrame.TheVariants as request
 use Rattle.tree_specs.specs.declared.frame.Errand.{Errand}
@@ -35,9 +36,9 @@ use Rattle.tree_specs.specs.declared.free_step.FreeReply.{FreeReply}
 use Rattle.tree_specs.specs.declared.free_step.FreeReply.TheVariants as free_reply
 use Rattle.tree_specs.specs.declared.moment.What.{What}
 use Rattle.tree_specs.specs.declared.moment.What.TheVariants.{Descriptor}
-use Rattle.tree_specs.specs.Tree.Pool.{Pool, row_of, owner_of, is_below, is_inside, newest_ref_of, target_at, first_kid, run_queue}
+use Rattle.tree_specs.specs.Tree.Pool.{Pool, row_of, owner_of, is_below, is_inside, newest_ref_of, target_at, first_kid, run_queue, is_usable, soon_here, times_here}
 use Rattle.tree_specs.specs.Tree.Targets.{newest_ref}
-use Rattle.tree_specs.specs.Calls.Refusals.{is_request, is_queue}
+use Rattle.tree_specs.specs.Calls.Refusals.{is_request, is_queue, is_doomed}
 use Rattle.tree_specs.specs.Calls.Plans.{Plan, planned}
 use Rattle.tree_specs.specs.Calls.Plans.Plan.{Frees, Unlinks}
 use Rattle.tree_specs.specs.Invariants.Awaiting.{pool_after}
@@ -50,11 +51,11 @@ use Rattle.tree_specs.specs.Events.Requests.{note_of, is_noted, is_unreceived, c
 use Rattle.tree_specs.specs.Rules.Items.{Item}
 use Rattle.tree_specs.specs.Rules.Items.Item.{Told, Asked}
 use Rattle.tree_specs.specs.Machine.FreeTable.{FreeMove, free_step, begin_step, begin_by, unlink_step, release_step, refs_step, loop_step, last_step, child_step, tried_step, hand_on_step}
-use Rattle.tree_specs.specs.Machine.Table.{Step, step, resume, taken, run_for, announced, event_of, closed_event, lifted, work_of, due_now, due_step, taking_step, early_step, timed_step, starting_step, handled_step, turn_step, cancelling_step, cleaning_step, release_object, cleaned_step, callback_step, notifying_step, receiving_step, vacating_step, triggering_step, request_step}
+use Rattle.tree_specs.specs.Machine.Table.{Step, step, resume, taken, run_for, announced, event_of, closed_event, lifted, work_of, due_now, due_step, taking_step, early_step, timed_step, starting_step, handled_step, turn_step, cancelling_step, cleaning_step, release_object, cleaned_step, callback_step, notifying_step, receiving_step, vacating_step, triggering_step, deferred_step, parting_step, closing_step, request_step}
 use Rattle.tree_specs.proofs.Tree.Numbered.{by_test}
 use Rattle.tree_specs.proofs.Invariants.Turning.{Passes, Pass, Serve, Trigger, IsLook, look-passes, taken-plain}
 use Rattle.tree_specs.proofs.Invariants.Waiters.{Waiter}
-use Rattle.tree_specs.proofs.Invariants.Waiters.Waiter.{ForFree, ForRun, ForChild, ForTurn, ForHandler, ForClear, ForRequest, ForServed, ForReceived, ForDrained, ForRoutine, ForRelease, ForEntry}
+use Rattle.tree_specs.proofs.Invariants.Waiters.Waiter.{ForFree, ForRun, ForChild, ForTurn, ForHandler, ForClear, ForParting, ForRequest, ForServed, ForReceived, ForDrained, ForRoutine, ForRelease, ForEntry}
 
 abbrev pub IsWork : Frame → Type 0
 IsWork (frame.Call f) = ⊥
@@ -113,6 +114,7 @@ resumed-carries a _ (ForChild x c noted purpose) = tt
 resumed-carries a _ (ForTurn q) = tt
 resumed-carries a _ (ForHandler what x handler occasion) = tt
 resumed-carries a _ (ForClear x) = tt
+resumed-carries a _ (ForParting c v) = tt
 resumed-carries a _ (ForRequest q) = tt
 resumed-carries a _ (ForServed x) = tt
 resumed-carries a _ (ForReceived x) = tt
@@ -239,16 +241,16 @@ due-closes : (x : Obj) (now : ℕ) (p : Pool) → (pool_after (due_now x now p))
 due-closes x now p = by_test (is_noted p.requests x) (λ t. rw t refl) (λ t. rw t refl)
 
 look-closes : (f : TurnFrame) (p : Pool) → IsLook f → (pool_after (turn_step f p)).descriptors ≡ p.descriptors
-look-closes Taking p i = each (first p.soon)
+look-closes Taking p i = each (first (soon_here p))
   where
     due : (o : Option Due) → (pool_after (due_step o p)).descriptors ≡ p.descriptors
     due None = refl
     due (Some d) = by_test (nat_eq d.time 0) (λ t. rw t (due-closes d.object 0 p)) (λ t. rw t refl)
 
-    each : (o : Option Obj) → (pool_after (taking_step o p)).descriptors ≡ p.descriptors
-    each None = due (first p.times)
-    each (Some x) = by_test (is_noted p.requests x) (λ t. rw t refl) (λ t. rw t (by_test (has_queue p.queues x) (λ u. rw u refl) (λ u. rw u refl)))
-look-closes (Timed again now) p i = each (first p.times)
+    each : (o : Option Coming) → (pool_after (taking_step o p)).descriptors ≡ p.descriptors
+    each None = due (first (times_here p))
+    each (Some y) = by_test (is_noted p.requests y.object) (λ t. rw t refl) (λ t. rw t (by_test (has_queue p.queues y.object) (λ u. rw u refl) (λ u. rw u refl)))
+look-closes (Timed again now) p i = each (first (times_here p))
   where
     early : (again : Bool) (d : Due) → (pool_after (early_step again d now p)).descriptors ≡ p.descriptors
     early true d = refl
@@ -260,9 +262,9 @@ look-closes (Timed again now) p i = each (first p.times)
 look-closes _ p i = absurd i
 
 passes-works : (p : Pool) (m : Step) → Passes p m → (pool_after m).descriptors ≡ p.descriptors → LeadsWork p m
-passes-works p _ (Pass t r rows next notes queues times plain) d = (tt, next, d)
-passes-works p _ (Trigger x r rows next notes queues times queue) d = (tt, tt, next, d)
-passes-works p _ (Serve errand x r rows next notes queues times served noted) d = (errand-starts errand x, tt, next, d)
+passes-works p _ (Pass t r rows next notes queues turning times plain) d = (tt, next, d)
+passes-works p _ (Trigger x r rows next notes queues turning times queue) d = (tt, tt, next, d)
+passes-works p _ (Serve errand x r rows next notes queues turning times served noted) d = (errand-starts errand x, tt, next, d)
 
 begun-next : (what : What) (x : Obj) (p : Pool) → ((begun what x p).next ≡ p.next) × ((begun what x p).descriptors ≡ p.descriptors)
 begun-next Descriptor x p = (refl, refl)
@@ -287,7 +289,16 @@ turn-works (Handled what x) p = each (goes_after p what x)
     each false = (tt, refl, refl)
 turn-works (Clearing x) p = (refl, refl)
 turn-works (Serving x) p = (refl, refl)
-turn-works (Closing v) p = (refl, refl)
+turn-works (Parting c v) p = (refl, refl)
+turn-works (Closing v) p = each p.turning
+  where
+    parts : (c : Obj) (b : Bool) → LeadsWork p (parting_step c v b p)
+    parts c true = (tt, tt, refl, refl)
+    parts c false = (refl, refl)
+
+    each : (o : Option Obj) → LeadsWork p (closing_step v o p)
+    each None = (refl, refl)
+    each (Some c) = parts c (is_doomed p c)
 
 -- ---- requests
 
@@ -327,7 +338,11 @@ request-works (request.Notifying x errand) p = each (note_of p.requests x)
 
     each : (o : Option Note) → LeadsWork p (notifying_step x errand o p)
     each None = (tt, refl, refl)
-    each (Some n) = by_test n.deferred (λ t. rw t (tt, refl, refl)) (λ t. rw t (back n.callback))
+    each (Some n) = deferred n.deferred
+      where
+        deferred : (o : Option Obj) → LeadsWork p (deferred_step x errand o n.callback p)
+        deferred (Some c) = by_test (is_usable p.rows c) (λ t. rw t (tt, refl, refl)) (λ t. rw t (tt, refl, refl))
+        deferred None = back n.callback
 request-works (request.Calling what x handler errand) p = (tt, tt, refl, refl)
 request-works (request.Called what x handler errand) p = ((refl, refl), tt, refl, refl)
 request-works (request.Releasing c) p = (refl, refl)

@@ -3,7 +3,6 @@ use Rattle.std.specs.Prelude.{ℕ, Bool, false, List, Option, Some, None}
 use Rattle.std.specs.Option.{option_map}
 use Rattle.step_machine.specs.Machine.{is_stray}
 use Rattle.tree_specs.specs.declared.question.Input.{Input}
-use Rattle.tree_specs.specs.declared.schedule.Header.{Header}
 use Rattle.tree_specs.specs.declared.schedule.Mode.{Mode}
 use Rattle.tree_specs.specs.declared.schedule.Mode.TheVariants.{Pool, Service}
 use Rattle.tree_specs.specs.declared.schedule.Reason.{Reason}

@@ -8,7 +8,7 @@ use Rattle.tree_specs.specs.declared.call.Call.TheVariants as call
 use Rattle.tree_specs.specs.declared.reply.Reply.{Reply}
 use Rattle.tree_specs.specs.declared.reply.Reply.TheVariants as reply
 use Rattle.tree_specs.specs.declared.reply.Refusal.{Refusal}
-use Rattle.tree_specs.specs.Words.Objects.{numbered_owner}
+use Rattle.tree_specs.specs.Words.Objects.{numbered_owner, first_context}
 use Rattle.tree_specs.specs.Words.Ranges.{is_return}
 use Rattle.service_rules.specs.declared.answer.Answer.TheVariants as answer
 use Rattle.service_rules.specs.declared.task.Accepting.{Accepting}
@@ -42,7 +42,7 @@ time_after now delay = min (now + delay) TIME_LIMIT
 abbrev pub accepting_call : Accepting → Call
 accepting_call accepting.Accept = call.Accept 0
 accepting_call (accepting.Session fd) = call.New (Of service) 0 (codes "session")
-accepting_call (accepting.Event fd s) = call.Fd (numbered_owner s.0) fd 1 2 s.0
+accepting_call (accepting.Event fd s) = call.Fd (numbered_owner s.0) fd 1 2 s.0 first_context
 accepting_call (accepting.Autoclose fd s e) = call.Autoclose e
 accepting_call (accepting.Queue fd s e) = call.Queue (numbered_owner s.0) (codes "jobs")
 accepting_call (accepting.Abandon fd s) = call.Free s
@@ -75,9 +75,9 @@ fulfilling_call s queue fulfilling.Call = None
 fulfilling_call s queue fulfilling.Parent = None
 fulfilling_call s queue (fulfilling.Sleep delay) = Some (call.Req (numbered_owner s.0) 0 (codes "sleep"))
 fulfilling_call s queue (fulfilling.Now request delay) = Some call.Now
-fulfilling_call s queue (fulfilling.EndTime request now delay) = Some (call.Endtime request (time_after now delay))
+fulfilling_call s queue (fulfilling.EndTime request now delay) = Some (call.Endtime request (time_after now delay) first_context)
 fulfilling_call s queue (fulfilling.Job delay) = Some (call.Req (numbered_owner s.0) 0 (codes "job"))
-fulfilling_call s queue (fulfilling.Enqueue request delay) = Some (call.Enqueue queue request 4 delay)
+fulfilling_call s queue (fulfilling.Enqueue request delay) = Some (call.Enqueue queue request 4 delay first_context)
 fulfilling_call s queue (fulfilling.Callback request) = Some (call.Callback request 3 s.0)
 fulfilling_call s queue (fulfilling.Undo request why) = Some (call.Free request)
 
@@ -177,7 +177,7 @@ notifying_call n c notifying.Flags = call.Flags c.event (wanted_flags c.unsent)
 
 abbrev pub triggering_call : Triggering → Call
 triggering_call (triggering.Now request delay) = call.Now
-triggering_call (triggering.EndTime request now delay) = call.Endtime request (time_after now delay)
+triggering_call (triggering.EndTime request now delay) = call.Endtime request (time_after now delay) first_context
 triggering_call (triggering.Oom request) = call.Oom request
 
 abbrev pub after_triggering : Triggering → Reply → Option Triggering

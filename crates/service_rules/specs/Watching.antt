@@ -6,6 +6,7 @@ use Rattle.tree_specs.specs.declared.event.Event.{Event}
 use Rattle.tree_specs.specs.declared.question.Ask.{Ask}
 use Rattle.tree_specs.specs.declared.question.Input.{Input}
 use Rattle.tree_specs.specs.declared.wants.Want.{Want}
+use Rattle.tree_specs.specs.Tree.Pool.{ring_here}
 use Rattle.tree_specs.specs.Events.Rotation.{wanted_of}
 use Rattle.tree_specs.specs.Rules.Items.{Item}
 use Rattle.tree_specs.specs.Rules.Items.Item.{Told, Asked}
@@ -13,7 +14,7 @@ use Rattle.tree_stories.specs.Sights.{Sight, Opening}
 use Rattle.service_rules.specs.Knowledge.{Knowledge, nothing_known}
 use Rattle.service_rules.specs.Service.{answers, machine, showing}
 
--- a question, and the descriptors that are watched while it is open
+-- a question, and the descriptors that are watched while it is open, in the context whose turn is under way
 pub record WatchedQuestion : Type 0 where
   pub ask : Ask
   pub wanted : List Want
@@ -30,7 +31,7 @@ abbrev pub items_of : List Shown → List Item
 items_of shown = map item_of shown
 
 abbrev pub watched : Opening → WatchedQuestion
-watched o = record { ask = o.ask; wanted = wanted_of o.pool.ring }
+watched o = record { ask = o.ask; wanted = wanted_of (ring_here o.pool) }
 
 abbrev pub watching : Driver Knowledge Sight Event Opening Input Input Shown
 watching = showing (λ e. AnEvent e) (λ o. AQuestion (watched o))

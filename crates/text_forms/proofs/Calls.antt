@@ -1,35 +1,34 @@
 -- Calls: their text, both ways.
-use Rattle.std.proofs.Common.{◌≡◌, ◌≢◌, ℕ, Bool, true, false, ◌&&◌, List, [], ◌∷◌, Option, Some, None, Result, Ok, Err, cond, refl, sym, ap, ◌∙◌, codes, append-nil, ◌++◌, map}
+use Rattle.std.proofs.Common.{◌≡◌, ◌≢◌, ℕ, Bool, true, false, List, [], ◌∷◌, Option, Some, None, Result, Ok, Err, cond, refl, sym, ap, ◌∙◌, codes, append-nil, ◌++◌, map}
 use Rattle.std.specs.Prelude.{IfOk, flat_map}
 use Rattle.std.specs.Fmt.{decimal}
 use Rattle.std.specs.List.{list_all}
-use Rattle.std.proofs.lemmas.List.Folds.{list_all-append}
 use Rattle.std.specs.Str.{bytes_eq}
 use Rattle.std.proofs.lemmas.Slice.Eq.{bytes_eq-Decides}
 use Rattle.tree_specs.specs.declared.call.Call.{Call}
-use Rattle.tree_specs.specs.declared.call.Call.TheVariants.{Free}
+use Rattle.tree_specs.specs.declared.call.Call.TheVariants.{Free, Context, Schedule, Timer, Fd, Defer, Post, Endtime, Enqueue, Pending, Turn}
 use Rattle.tree_specs.specs.declared.schedule.Version.{Version}
 use Rattle.tree_specs.specs.declared.schedule.Version.TheVariants.{One, Two}
 use Rattle.tree_specs.specs.declared.object.Obj.{Obj}
 use Rattle.tree_specs.specs.declared.object.Owner.{Owner}
-use Rattle.tree_specs.specs.Texts.Grammar.{◌>>=◌, ◌leaving◌, context_of, words, taken, ended, read, form_in, call_of_words, call_of}
-use Rattle.tree_specs.specs.Words.Names.{is_name, is_name_in, is_short_in}
-use Rattle.tree_specs.specs.Words.Octets.{is_octets}
-use Rattle.tree_specs.specs.Words.Ranges.{is_number, is_in, is_sound_owner, is_sound_field, all_sound, is_sound_call_in, is_sound_call}
+use Rattle.tree_specs.specs.Texts.Grammar.{◌>>=◌, ◌leaving◌, object_of, words, taken, ended, read, form_in, call_of_words, call_of}
+use Rattle.tree_specs.specs.Words.Names.{is_name_in}
+use Rattle.tree_specs.specs.Words.Objects.{same, first_context}
+use Rattle.tree_specs.specs.Words.Ranges.{is_number, is_in, is_sound_owner, is_sound_call_in, is_sound_call}
 use Rattle.tree_specs.specs.Texts.Text.{call_text}
 use Rattle.text_forms.specs.declared.form.FormFault.{FormFault}
 use Rattle.text_forms.specs.declared.form.FormFault.TheVariants.{NoForm, Memory}
 use Rattle.text_forms.specs.Reads.{Reads}
-use Rattle.text_forms.specs.Bytes.{are_bytes, field_has_bytes, has_bytes}
+use Rattle.text_forms.specs.Bytes.{has_bytes}
 use Rattle.tree_specs.specs.Calls.Spelling.{Numeral, Field, Spelling, ◌with◌, in_context, spelling, Reading, Form, forms}
 use Rattle.tree_specs.specs.Calls.Spelling.Numeral.{Number, Number32, Positive32, Time, FdFlags, Length}
 use Rattle.tree_specs.specs.Calls.Spelling.Field.{AnOwner, AnObject, ANumeral, AName, SomeBytes, TheContext}
 use Rattle.tree_specs.specs.Calls.Spelling.Reading.{NoMore, TakesOwner, TakesObject, TakesNumeral, EndsInName, EndsInBytes, EndsInContext}
 use Rattle.tree_specs.specs.Texts.Text.{field_text}
-use Rattle.text_forms.proofs.Fields.{IsField, HasRead, has_read, numeral_field, owner_field, object_field, context_field, name_field}
+use Rattle.text_forms.proofs.Fields.{IsField, HasRead, has_read, numeral_field, owner_field, object_field, context_number, the_first, name_field}
 use Rattle.text_forms.proofs.Hexadecimal.{is_sound_octets, octets_field}
 use Rattle.text_forms.proofs.Bools.{and_true}
-use Rattle.text_forms.proofs.Contexts.{context_kept}
+use Rattle.text_forms.proofs.Sound.{fits, all_fit, all_fit_from, all_sound_from, all_have_from, all_sound_anyway, stands_in, stands_from, sound_fields, call_sound, same_bytes}
 use Rattle.text_forms.proofs.Words.{is_unspaced, joined, words-joined, joined-words}
 
 -- ---- the words of a call
@@ -70,9 +69,9 @@ same_kind_itself Number = refl
 same_kind_itself _ = refl
 
 -- the call of a reading that ends in a context, where the fields end so too
-abbrev fed_context : Version → Call → List Field → Option Call
-fed_context One call [] = Some call
-fed_context Two call (TheContext ∷ []) = Some call
+abbrev fed_context : Version → (Obj → Call) → List Field → Option Call
+fed_context One call [] = Some (call first_context)
+fed_context Two call (TheContext x ∷ []) = Some (call x)
 fed_context v call fs = None
 
 -- what a reading makes of fields that are there already
@@ -94,56 +93,13 @@ fed_where : (b : Bool) (fed : Option Call) (c : Call) → cond b fed None ≡ So
 fed_where true fed c e = (refl, e)
 fed_where false fed c e = absurd cc
 
--- a sound field, whose bytes are bytes
-abbrev fits : Version → Field → Bool
-fits v (SomeBytes bytes) = is_sound_octets bytes
-fits v f = is_sound_field v f
-
-abbrev all_fit : Version → List Field → Bool
-all_fit v fs = list_all (fits v) fs
-
-sound_parts : (v : Version) (f : Field) (fs : List Field) → all_sound v (f ∷ fs) ≡ true → (is_sound_field v f ≡ true) × (all_sound v fs ≡ true)
-sound_parts v f [] h = (h, refl)
-sound_parts v f (g ∷ fs) h = and_true (is_sound_field v f) (all_sound v (g ∷ fs)) h
-
-sound_more : (v : Version) (f : Field) (fs : List Field) → is_sound_field v f ≡ true → all_sound v fs ≡ true → all_sound v (f ∷ fs) ≡ true
-sound_more v f [] h more = h
-sound_more v f (g ∷ fs) h more = rw (h, more) refl
-
-fits_from : (v : Version) (f : Field) → is_sound_field v f ≡ true → field_has_bytes f ≡ true → fits v f ≡ true
-fits_from v (SomeBytes bytes) sound has = rw (sound, has) refl
-fits_from v _ sound has = sound
-
-all_fit_from : (v : Version) (fs : List Field) → all_sound v fs ≡ true → list_all field_has_bytes fs ≡ true → all_fit v fs ≡ true
-all_fit_from v [] sound has = refl
-all_fit_from v (f ∷ fs) sound has =
-    let s = sound_parts v f fs sound in
-    let h = and_true (field_has_bytes f) (list_all field_has_bytes fs) has in
-    rw (fits_from v f s.0 h.0, all_fit_from v fs s.1 h.1) refl
-
-is_sound_from : (v : Version) (f : Field) → fits v f ≡ true → is_sound_field v f ≡ true
-is_sound_from v (SomeBytes bytes) h = (and_true (is_octets bytes) (are_bytes bytes) h).0
-is_sound_from v _ h = h
-
-all_sound_from : (v : Version) (fs : List Field) → all_fit v fs ≡ true → all_sound v fs ≡ true
-all_sound_from v [] h = refl
-all_sound_from v (f ∷ fs) h = let parts = and_true (fits v f) (all_fit v fs) h in sound_more v f fs (is_sound_from v f parts.0) (all_sound_from v fs parts.1)
-
-has_from : (v : Version) (f : Field) → fits v f ≡ true → field_has_bytes f ≡ true
-has_from v (SomeBytes bytes) h = (and_true (is_octets bytes) (are_bytes bytes) h).1
-has_from v _ h = refl
-
-all_have_from : (v : Version) (fs : List Field) → all_fit v fs ≡ true → list_all field_has_bytes fs ≡ true
-all_have_from v [] h = refl
-all_have_from v (f ∷ fs) h = let parts = and_true (fits v f) (all_fit v fs) h in rw (has_from v f parts.0, all_have_from v fs parts.1) refl
-
 field_is_word : (v : Version) (f : Field) → fits v f ≡ true → is_unspaced (field_text f) ≡ true
 field_is_word v (AnOwner owner) h = owner_field.is_word owner h
 field_is_word v (AnObject x) h = object_field.is_word x h
 field_is_word v (ANumeral kind n) h = (numeral_field kind).is_word n h
 field_is_word v (AName name) h = (name_field v).is_word name h
 field_is_word v (SomeBytes bytes) h = octets_field.is_word bytes h
-field_is_word v TheContext h = context_field.is_word tt h
+field_is_word v (TheContext x) h = object_field.is_word x (context_number v x h)
 
 fields_are_words : (v : Version) (fs : List Field) → all_fit v fs ≡ true → list_all is_unspaced (map field_text fs) ≡ true
 fields_are_words v [] h = refl
@@ -164,55 +120,40 @@ taken_again v (TakesNumeral kind next) (ANumeral other n ∷ fs) c h e =
     rw ((numeral_field kind).again n within) (taken_again v (next n) fs c parts.1 same.1)
 taken_again v (EndsInName call) (AName name ∷ []) c h e = let same : call name ≡ c = cc in rw ((name_field v).again name (and_true (is_name_in v name) true h).0, same) refl
 taken_again v (EndsInBytes call) (SomeBytes bytes ∷ []) c h e = let same : call bytes ≡ c = cc in rw (octets_field.again bytes (and_true (is_sound_octets bytes) true h).0, same) refl
-taken_again One (EndsInContext call) [] c h e = let same : call ≡ c = cc in rw same refl
-taken_again Two (EndsInContext call) (TheContext ∷ []) c h e = let same : call ≡ c = cc in rw (context_field.again tt refl, same) refl
+taken_again One (EndsInContext call) [] c h e = let same : call first_context ≡ c = cc in rw same refl
+taken_again Two (EndsInContext call) (TheContext x ∷ []) c h e = let same : call x ≡ c = cc in rw (object_field.again x (and_true (is_number x.0) true h).0, same) refl
 taken_again v _ fs c h e = absurd cc
 
--- each call is what the form with its verb makes of its fields
-fed : (v : Version) (c : Call) → (form_in forms (spelling v c).verb >>= λ reading. feed v reading (spelling v c).fields) ≡ Some c
+in_the_first : (call : Obj → Call) (x : Obj) → same x first_context ≡ true → Some (call first_context) ≡ Some (call x)
+in_the_first call x h = ap (λ (y : Obj). Some (call y)) (sym (the_first x h))
+
+-- each call of a version is what the form with its verb makes of its fields
+fed : (v : Version) (c : Call) → stands_in v c ≡ true → (form_in (forms v) (spelling v c).verb >>= λ reading. feed v reading (spelling v c).fields) ≡ Some c
 unfolding feed
-fed One (Free x) = refl
-fed One _ = refl
-fed Two (Free x) = refl
-fed Two _ = refl
+fed One (Context owner) h = absurd cc
+fed One (Schedule x routine user y) h = in_the_first (Schedule x routine user) y h
+fed One (Timer owner time routine user y) h = in_the_first (Timer owner time routine user) y h
+fed One (Fd owner fd flags routine user y) h = in_the_first (Fd owner fd flags routine user) y h
+fed One (Defer x y) h = in_the_first (Defer x) y h
+fed One (Post x y) h = in_the_first (Post x) y h
+fed One (Endtime x time y) h = in_the_first (Endtime x time) y h
+fed One (Enqueue queue x routine user y) h = in_the_first (Enqueue queue x routine user) y h
+fed One (Pending y) h = in_the_first Pending y h
+fed One (Turn y) h = in_the_first Turn y h
+fed One _ h = refl
+fed Two (Free x) h = refl
+fed Two _ h = refl
 
 verb_is_word : (v : Version) (c : Call) → is_unspaced (spelling v c).verb ≡ true
 verb_is_word v (Free x) = refl
 verb_is_word v _ = refl
 
-and-same : (b : Bool) → (b && true) ≡ b
-and-same true = refl
-and-same false = refl
-
--- a context fits wherever it is said
-same_fit : (v w : Version) (c : Call) → all_fit w (spelling v c).fields ≡ all_fit w (spelling One c).fields
-same_fit v w c = context_kept (all_fit w) (λ fs. list_all-append (fits w) fs (TheContext ∷ []) ∙ and-same (all_fit w fs)) v c
-
-context_sound : (w : Version) (fs : List Field) → all_sound w (fs ++ TheContext ∷ []) ≡ all_sound w fs
-context_sound w [] = refl
-context_sound w (f ∷ []) = and-same (is_sound_field w f)
-context_sound w (f ∷ g ∷ fs) = ap (λ (b : Bool). is_sound_field w f && b) (context_sound w (g ∷ fs))
-
--- what is sound in a version is sound in the newest
-sound_field_anyway : (v : Version) (f : Field) → is_sound_field v f ≡ true → is_sound_field Two f ≡ true
-sound_field_anyway v (AName name) h = (and_true (is_short_in v name) (is_name name) h).1
-sound_field_anyway v (AnOwner o) h = h
-sound_field_anyway v _ h = h
-
-all_sound_anyway : (v : Version) (fs : List Field) → all_sound v fs ≡ true → all_sound Two fs ≡ true
-all_sound_anyway v [] h = refl
-all_sound_anyway v (f ∷ fs) h = let parts = sound_parts v f fs h in sound_more Two f fs (sound_field_anyway v f parts.0) (all_sound_anyway v fs parts.1)
-
 pub sound_anyway : (v : Version) (c : Call) → is_sound_call_in v c ≡ true → is_sound_call c ≡ true
-sound_anyway v c h = all_sound_anyway v (spelling One c).fields h
+sound_anyway v c h = all_sound_anyway v (spelling Two c).fields (sound_fields Two v c h)
 
--- a call is as sound as its fields are, in whatever version they are spelled
-pub sound_fields : (v w : Version) (c : Call) → all_sound w (spelling v c).fields ≡ is_sound_call_in w c
-sound_fields v w c = context_kept (all_sound w) (context_sound w) v c
-
-words_again : (v : Version) (c : Call) → all_fit v (spelling v c).fields ≡ true → call_of_words v (words_of v c) ≡ Some c
+words_again : (v : Version) (c : Call) → stands_in v c ≡ true → all_fit v (spelling v c).fields ≡ true → call_of_words v (words_of v c) ≡ Some c
 unfolding call_of_words
-words_again v c h = each (form_in forms (spelling v c).verb) (fed v c)
+words_again v c stands h = each (form_in (forms v) (spelling v c).verb) (fed v c stands)
   where
     each : (form : Option Reading) → (form >>= λ reading. feed v reading (spelling v c).fields) ≡ Some c → (form >>= λ reading. read v reading (map field_text (spelling v c).fields)) ≡ Some c
     each None e = absurd cc
@@ -221,9 +162,9 @@ words_again v c h = each (form_in forms (spelling v c).verb) (fed v c)
 pub call_again : (v : Version) (c : Call) → is_sound_call_in v c ≡ true → has_bytes c ≡ true → call_of v (call_text v c) ≡ Some c
 unfolding call_of
 call_again v c sound has =
-    let h = same_fit v v c ∙ all_fit_from v (spelling One c).fields sound has in
+    let h = all_fit_from v (spelling v c).fields (sound_fields v v c sound) (same_bytes v c ∙ has) in
     let unspaced : list_all is_unspaced (words_of v c) ≡ true = rw (verb_is_word v c, fields_are_words v (spelling v c).fields h) refl in
-    rw (call_text-words v c, words-joined (spelling v c).verb (map field_text (spelling v c).fields) unspaced) (words_again v c h)
+    rw (call_text-words v c, words-joined (spelling v c).verb (map field_text (spelling v c).fields) unspaced) (words_again v c (stands_from v c sound) h)
 
 -- ---- from words to a call and back
 
@@ -272,17 +213,17 @@ all_taken (Some (x, [])) c e = let same : x ≡ c = cc in ap (λ (z : Call). Som
 all_taken (Some (x, word ∷ more)) c e = absurd cc
 
 -- a context was read, and the words behind it are left
-context_more : (word : List ℕ) (more : List (List ℕ)) (call : Call) → taken Two (EndsInContext call) (word ∷ more) ≡ (((context_of word) leaving more) >>= λ x. Some (call, x.1))
+context_more : (word : List ℕ) (more : List (List ℕ)) (call : Obj → Call) → taken Two (EndsInContext call) (word ∷ more) ≡ (((object_of word) leaving more) >>= λ x. Some (call x.0, x.1))
 context_more word more call = refl
 
-context_fed : (call : Call) (word : List ℕ) (more : List (List ℕ)) (c : Call) → HasRead {B = Call × List (List ℕ)} (λ (x : Unit {0}). decimal 0) (λ x. true) word (λ x. Some (call, more)) (c, []) → IsFed Two (EndsInContext call) (word ∷ more) c
+context_fed : (call : Obj → Call) (word : List ℕ) (more : List (List ℕ)) (c : Call) → HasRead {B = Call × List (List ℕ)} (λ (x : Obj). decimal x.0) (λ x. is_number x.0) word (λ x. Some (call x, more)) (c, []) → IsFed Two (EndsInContext call) (word ∷ more) c
 unfolding feed
 context_fed call word more c x =
     let same = same_pair x.goes_on in
     record {
-      fields = TheContext ∷ [];
-      words_are = ap (λ (w : List ℕ). w ∷ more) x.text_is ∙ ap (λ (z : Call × List (List ℕ)). decimal 0 ∷ z.1) same;
-      fit = refl;
+      fields = TheContext x.value ∷ [];
+      words_are = ap (λ (w : List ℕ). w ∷ more) x.text_is ∙ ap (λ (z : Call × List (List ℕ)). decimal x.value.0 ∷ z.1) same;
+      fit = rw x.value_is_sound refl;
       made = ap (λ (z : Call × List (List ℕ)). Some z.0) same;
     }
 
@@ -295,7 +236,7 @@ is_fed v (TakesNumeral kind next) (word ∷ more) c e = let x = has_field (numer
 is_fed v (EndsInName call) (word ∷ []) c e = let x = has_field (name_field v) word [] _ (c, []) e in last_one v (AName x.value) _ word (call x.value) c x.text_is x.value_is_sound (refl {a = Some (call x.value)}) (same_call x.goes_on)
 is_fed v (EndsInBytes call) (word ∷ []) c e = let x = has_field octets_field word [] _ (c, []) e in last_one v (SomeBytes x.value) _ word (call x.value) c x.text_is x.value_is_sound (refl {a = Some (call x.value)}) (same_call x.goes_on)
 is_fed One (EndsInContext call) ws c e = let same = same_pair e in record { fields = []; words_are = ap (λ (z : Call × List (List ℕ)). z.1) same; fit = refl; made = ap (λ (z : Call × List (List ℕ)). Some z.0) same }
-is_fed Two (EndsInContext call) (word ∷ more) c e = context_fed call word more c (has_field context_field word more _ (c, []) (sym (context_more word more call) ∙ e))
+is_fed Two (EndsInContext call) (word ∷ more) c e = context_fed call word more c (has_field object_field word more _ (c, []) (sym (context_more word more call) ∙ e))
 is_fed v _ ws c e = absurd cc
 
 -- whatever is read, the call is spelled so
@@ -306,14 +247,15 @@ Spells v (TakesObject next) so = (x : Obj) → Spells v (next x) (λ fs. so (AnO
 Spells v (TakesNumeral kind next) so = (n : ℕ) → Spells v (next n) (λ fs. so (ANumeral kind n ∷ fs))
 Spells v (EndsInName call) so = (name : List ℕ) → spelling v (call name) ≡ so (AName name ∷ [])
 Spells v (EndsInBytes call) so = (bytes : List ℕ) → spelling v (call bytes) ≡ so (SomeBytes bytes ∷ [])
-Spells v (EndsInContext call) so = spelling v call ≡ so (in_context v)
+Spells v (EndsInContext call) so = (x : Obj) → spelling v (call x) ≡ so (in_context v x)
 
 abbrev AllSpell : Version → List Form → Type 0
 AllSpell v [] = Unit {0}
 AllSpell v (f ∷ fs) = Spells v f.reading (λ fields. f.verb with fields) × AllSpell v fs
 
-all_spell : (v : Version) → AllSpell v forms
-all_spell v = search tt
+all_spell : (v : Version) → AllSpell v (forms v)
+all_spell One = search tt
+all_spell Two = search tt
 
 spelled_so : (v : Version) (reading : Reading) (so : List Field → Spelling) (fs : List Field) (c : Call) → Spells v reading so → feed v reading fs ≡ Some c → spelling v c ≡ so fs
 unfolding feed
@@ -325,9 +267,39 @@ spelled_so v (TakesNumeral kind next) so (ANumeral other n ∷ fs) c h e =
     spelled_so v (next n) (λ fs. so (ANumeral kind n ∷ fs)) fs c (h n) same.1 ∙ ap (λ k. so (ANumeral k n ∷ fs)) (same_kind_is kind other same.0)
 spelled_so v (EndsInName call) so (AName name ∷ []) c h e = let same : call name ≡ c = cc in sym (ap (spelling v) same) ∙ h name
 spelled_so v (EndsInBytes call) so (SomeBytes bytes ∷ []) c h e = let same : call bytes ≡ c = cc in sym (ap (spelling v) same) ∙ h bytes
-spelled_so One (EndsInContext call) so [] c h e = let same : call ≡ c = cc in sym (ap (spelling One) same) ∙ h
-spelled_so Two (EndsInContext call) so (TheContext ∷ []) c h e = let same : call ≡ c = cc in sym (ap (spelling Two) same) ∙ h
+spelled_so One (EndsInContext call) so [] c h e = let same : call first_context ≡ c = cc in sym (ap (spelling One) same) ∙ h first_context
+spelled_so Two (EndsInContext call) so (TheContext x ∷ []) c h e = let same : call x ≡ c = cc in sym (ap (spelling Two) same) ∙ h x
 spelled_so v _ so fs c h e = absurd cc
+
+-- whatever is read, the version has the call, and the context that it is in
+abbrev Stands : Version → Reading → Type 0
+Stands v (NoMore call) = stands_in v call ≡ true
+Stands v (TakesOwner next) = (owner : Owner) → Stands v (next owner)
+Stands v (TakesObject next) = (x : Obj) → Stands v (next x)
+Stands v (TakesNumeral kind next) = (n : ℕ) → Stands v (next n)
+Stands v (EndsInName call) = (name : List ℕ) → stands_in v (call name) ≡ true
+Stands v (EndsInBytes call) = (bytes : List ℕ) → stands_in v (call bytes) ≡ true
+Stands v (EndsInContext call) = stands_in v (call first_context) ≡ true
+
+abbrev AllStand : Version → List Form → Type 0
+AllStand v [] = Unit {0}
+AllStand v (f ∷ fs) = Stands v f.reading × AllStand v fs
+
+all_stand : (v : Version) → AllStand v (forms v)
+all_stand One = search tt
+all_stand Two = search tt
+
+stands_so : (v : Version) (reading : Reading) (fs : List Field) (c : Call) → Stands v reading → feed v reading fs ≡ Some c → stands_in v c ≡ true
+unfolding feed
+stands_so Two reading fs c h e = refl
+stands_so One (NoMore call) [] c h e = let same : call ≡ c = cc in sym (ap (stands_in One) same) ∙ h
+stands_so One (TakesOwner next) (AnOwner owner ∷ fs) c h e = stands_so One (next owner) fs c (h owner) e
+stands_so One (TakesObject next) (AnObject x ∷ fs) c h e = stands_so One (next x) fs c (h x) e
+stands_so One (TakesNumeral kind next) (ANumeral other n ∷ fs) c h e = stands_so One (next n) fs c (h n) (fed_where (same_kind kind other) (feed One (next n) fs) c e).1
+stands_so One (EndsInName call) (AName name ∷ []) c h e = let same : call name ≡ c = cc in sym (ap (stands_in One) same) ∙ h name
+stands_so One (EndsInBytes call) (SomeBytes bytes ∷ []) c h e = let same : call bytes ≡ c = cc in sym (ap (stands_in One) same) ∙ h bytes
+stands_so One (EndsInContext call) [] c h e = let same : call first_context ≡ c = cc in sym (ap (stands_in One) same) ∙ h
+stands_so One _ fs c h e = absurd cc
 
 -- the call is sound, its bytes are bytes, and these are its words
 record IsSpelling (v : Version) (ws : List (List ℕ)) (c : Call) : Type 0 where
@@ -335,19 +307,19 @@ record IsSpelling (v : Version) (ws : List (List ℕ)) (c : Call) : Type 0 where
   is_sound : is_sound_call_in v c ≡ true
   has : has_bytes c ≡ true
 
-spelled_as : (v : Version) (verb name : List ℕ) (fields : List Field) (ws : List (List ℕ)) (c : Call) → verb ≡ name → ws ≡ map field_text fields → all_fit v fields ≡ true → spelling v c ≡ (name with fields) → IsSpelling v (verb ∷ ws) c
-spelled_as v verb name fields ws c named texts fit so = record {
+spelled_as : (v : Version) (verb name : List ℕ) (fields : List Field) (ws : List (List ℕ)) (c : Call) → verb ≡ name → ws ≡ map field_text fields → all_fit v fields ≡ true → spelling v c ≡ (name with fields) → stands_in v c ≡ true → IsSpelling v (verb ∷ ws) c
+spelled_as v verb name fields ws c named texts fit so stands = record {
   words_are = rw (so, named, texts) refl;
-  is_sound = all_sound_from v (spelling One c).fields (first v fit);
-  has = all_have_from v (spelling One c).fields (first v fit);
+  is_sound = call_sound v c stands (all_sound_from v (spelling v c).fields own);
+  has = sym (same_bytes v c) ∙ all_have_from v (spelling v c).fields own;
 }
   where
-    first : (w : Version) → all_fit w fields ≡ true → all_fit w (spelling One c).fields ≡ true
-    first w fit = sym (same_fit v w c) ∙ ap (λ (s : Spelling). all_fit w s.fields) so ∙ fit
+    own : all_fit v (spelling v c).fields ≡ true
+    own = ap (λ (s : Spelling). all_fit v s.fields) so ∙ fit
 
-form_spelled : (v : Version) (rows : List Form) → AllSpell v rows → (verb : List ℕ) (ws : List (List ℕ)) (c : Call) → (form_in rows verb >>= λ reading. read v reading ws) ≡ Some c → IsSpelling v (verb ∷ ws) c
-form_spelled v [] all verb ws c e = absurd cc
-form_spelled v (f ∷ fs) all verb ws c e = by_test (bytes_eq verb f.verb) refl e (form_spelled v fs all.1 verb ws c)
+form_spelled : (v : Version) (rows : List Form) → AllSpell v rows → AllStand v rows → (verb : List ℕ) (ws : List (List ℕ)) (c : Call) → (form_in rows verb >>= λ reading. read v reading ws) ≡ Some c → IsSpelling v (verb ∷ ws) c
+form_spelled v [] all stand verb ws c e = absurd cc
+form_spelled v (f ∷ fs) all stand verb ws c e = by_test (bytes_eq verb f.verb) refl e (form_spelled v fs all.1 stand.1 verb ws c)
   where
     by_test : (b : Bool) → bytes_eq verb f.verb ≡ b → (cond b (Some f.reading) (form_in fs verb) >>= λ reading. read v reading ws) ≡ Some c
         → ((form_in fs verb >>= λ reading. read v reading ws) ≡ Some c → IsSpelling v (verb ∷ ws) c) → IsSpelling v (verb ∷ ws) c
@@ -355,12 +327,12 @@ form_spelled v (f ∷ fs) all verb ws c e = by_test (bytes_eq verb f.verb) refl 
     by_test true h e others =
         let fit = is_fed v f.reading ws c (all_taken (taken v f.reading ws) c e) in
         let so : spelling v c ≡ (f.verb with fit.fields) = spelled_so v f.reading (λ fields. f.verb with fields) fit.fields c all.0 fit.made in
-        spelled_as v verb f.verb fit.fields ws c ((bytes_eq-Decides verb f.verb).0 h) fit.words_are fit.fit so
+        spelled_as v verb f.verb fit.fields ws c ((bytes_eq-Decides verb f.verb).0 h) fit.words_are fit.fit so (stands_so v f.reading fit.fields c stand.0 fit.made)
 
 words_spelled : (v : Version) (ws : List (List ℕ)) (c : Call) → call_of_words v ws ≡ Some c → IsSpelling v ws c
 unfolding call_of_words
 words_spelled v [] c e = absurd cc
-words_spelled v (verb ∷ fields) c e = form_spelled v forms (all_spell v) verb fields c e
+words_spelled v (verb ∷ fields) c e = form_spelled v (forms v) (all_spell v) (all_stand v) verb fields c e
 
 pub call_spelled : (v : Version) (text : List ℕ) (c : Call) → call_of v text ≡ Some c → (text ≡ call_text v c) × (is_sound_call_in v c ≡ true)
 unfolding call_of

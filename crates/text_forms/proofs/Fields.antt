@@ -1,21 +1,22 @@
 -- Each kind of field: its spelling, both ways.
-use Rattle.std.proofs.Common.{◌≡◌, ℕ, zero, suc, ◌^◌, ◌<◌, ◌==◌, if◌then◌else◌, Bool, true, false, eqb, ltb, leb, not, ◌&&◌, List, [], ◌∷◌, length, Option, Some, None, refl, sym, ap, ◌∙◌, arith}
+use Rattle.std.proofs.Common.{◌≡◌, ℕ, zero, suc, ◌^◌, ◌<◌, Bool, true, eqb, ltb, leb, not, ◌&&◌, List, [], ◌∷◌, length, Option, Some, None, refl, sym, ap, ◌∙◌, arith}
 use Rattle.std.specs.Char.{is_ascii_digit}
 use Rattle.std.specs.Fmt.{decimal}
 use Rattle.std.specs.List.{list_all}
 use Rattle.std.specs.Str.{all_ascii_digits}
-use Rattle.std.proofs.lemmas.Bool.{ltb-true}
+use Rattle.std.proofs.lemmas.Bool.{eqb-true, ltb-true}
 use Rattle.std.proofs.lemmas.Bool.Decides.{nat_tests}
 use Rattle.tree_specs.specs.declared.object.Obj.{Obj}
 use Rattle.tree_specs.specs.declared.object.Owner.{Owner}
 use Rattle.tree_specs.specs.declared.object.Owner.TheVariants.{Root, Of}
 use Rattle.tree_specs.specs.Calls.Spelling.{Numeral}
 use Rattle.tree_specs.specs.Calls.Spelling.Numeral.{Number}
-use Rattle.tree_specs.specs.Texts.Grammar.{◌>>=◌, number_of, numeral_of, owner_of, object_of, name_of, context_of}
+use Rattle.tree_specs.specs.Texts.Grammar.{◌>>=◌, number_of, numeral_of, owner_of, object_of, name_of}
 use Rattle.tree_specs.specs.declared.schedule.Version.{Version}
+use Rattle.tree_specs.specs.declared.schedule.Version.TheVariants.{One, Two}
 use Rattle.tree_specs.specs.Words.Names.{is_name, is_name_in, is_short_in, is_graphic}
-use Rattle.tree_specs.specs.Words.Objects.{owner_number, numbered_owner}
-use Rattle.tree_specs.specs.Words.Ranges.{is_number, is_in, is_sound_owner}
+use Rattle.tree_specs.specs.Words.Objects.{owner_number, numbered_owner, same, first_context}
+use Rattle.tree_specs.specs.Words.Ranges.{is_number, is_in, is_sound_owner, is_context_in}
 use Rattle.text_forms.specs.Reads.{in_range, ReadsNumeral}
 use Rattle.text_forms.proofs.Numerals.{number_spelled, number_again, decimal_digits}
 use Rattle.text_forms.proofs.Bools.{and_true, taken_where, list_all-weaker}
@@ -129,19 +130,23 @@ pub object_field : IsField object_of (λ x. decimal x.0) (λ x. is_number x.0)
 unfolding object_of
 object_field = by_number (λ n. record { 0 = n }) (λ (x : Obj). x.0) (λ x. is_number x.0) (λ n lt. (refl, is_number_from n lt)) (λ x h. (h, refl))
 
--- ---- the context
+-- ---- contexts
 
--- 0 is its number
-context_number : (n : ℕ) (c : Unit {0}) → is_number n ≡ true → (if n == 0 then Some tt else None) ≡ Some c → (0 ≡ n) × (true ≡ true)
-context_number zero c h e = (refl, refl)
-context_number (suc n) c h e =
-    let other : (suc n == 0) ≡ false = grind (arith, nat_tests) in
-    let bad : None ≡ Some c = rw other at e in
-    absurd cc
+zero_is_number : (n : ℕ) → eqb n 0 ≡ true → is_number n ≡ true
+zero_is_number n h = grind (arith, nat_tests)
 
-pub context_field : IsField context_of (λ c. decimal 0) (λ c. true)
-unfolding context_of
-context_field = by_field number_field (λ n. if n == 0 then Some tt else None) (λ c. 0) (λ c. true) context_number (λ c h. (refl, refl))
+-- a version's context has a number
+pub context_number : (v : Version) (c : Obj) → is_context_in v c ≡ true → is_number c.0 ≡ true
+context_number One c h = zero_is_number c.0 h
+context_number Two c h = h
+
+numbered_object : ℕ → Obj
+numbered_object n = record { 0 = n }
+
+-- version 1 has the first one alone
+pub the_first : (c : Obj) → same c first_context ≡ true → c ≡ first_context
+unfolding numbered_object
+the_first c h = ap numbered_object (eqb-true c.0 0 h)
 
 -- ---- what reading a number answers
 

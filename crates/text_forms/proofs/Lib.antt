@@ -5,6 +5,7 @@ pub mod Words
 pub mod Fields
 pub mod Hexadecimal
 pub mod Contexts
+pub mod Sound
 pub mod Calls
 pub mod Cursor
 pub mod Verbs

@@ -1,12 +1,12 @@
 -- Verbs by the shape of their fields: the calls that they make, and how a reader goes through their words.
-use Rattle.std.specs.Prelude.{ℕ, ◌≡◌, Bool, List, [], Option, Some, None, filter, length}
+use Rattle.std.specs.Prelude.{ℕ, ◌≡◌, Bool, true, false, List, [], Option, Some, None, filter, length}
 use Rattle.tree_specs.specs.declared.object.Obj.{Obj}
 use Rattle.tree_specs.specs.declared.object.Owner.{Owner}
 use Rattle.tree_specs.specs.declared.object.Owner.TheVariants.{Root}
 use Rattle.tree_specs.specs.declared.call.Call.{Call}
 use Rattle.tree_specs.specs.declared.call.Call.TheVariants as calls
 use Rattle.tree_specs.specs.declared.schedule.Version.{Version}
-use Rattle.tree_specs.specs.declared.schedule.Version.TheVariants.{One}
+use Rattle.tree_specs.specs.declared.schedule.Version.TheVariants.{One, Two}
 use Rattle.tree_specs.specs.Calls.Spelling.{spelling, Reading, Form, forms, takes_number, of_object, object_in_context, of_owner, owner_and_object, of_descriptor, object_and_number, object_and_routine}
 use Rattle.tree_specs.specs.Calls.Spelling.Numeral.{Number32, Positive32, Time, FdFlags, Length}
 use Rattle.tree_specs.specs.Calls.Spelling.Reading.{NoMore, TakesOwner, TakesObject, TakesNumeral, EndsInName, EndsInBytes, EndsInContext}
@@ -34,9 +34,9 @@ use Rattle.text_forms.specs.declared.verb.Verb.TheVariants as verbs
 
 -- ---- the calls of the verbs that have one shape
 
-abbrev pub context_call : ContextVerb → Call
-context_call context.Pending = calls.Pending
-context_call context.Turn = calls.Turn
+abbrev pub context_call : ContextVerb → Obj → Call
+context_call context.Pending c = calls.Pending c
+context_call context.Turn c = calls.Turn c
 
 abbrev pub object_call : ObjectVerb → Obj → Call
 object_call object.Free x = calls.Free x
@@ -57,15 +57,16 @@ object_call object.Stop x = calls.Stop x
 object_call object.Length x = calls.Length x
 object_call object.Running x = calls.Running x
 
-abbrev pub object_context_call : ObjectContextVerb → Obj → Call
-object_context_call object_context.Defer x = calls.Defer x
-object_context_call object_context.Post x = calls.Post x
+abbrev pub object_context_call : ObjectContextVerb → Obj → Obj → Call
+object_context_call object_context.Defer x c = calls.Defer x c
+object_context_call object_context.Post x c = calls.Post x c
 
 abbrev pub owner_call : OwnerVerb → Owner → Call
 owner_call owner.Total o = calls.Total o
 owner_call owner.Count o = calls.Count o
 owner_call owner.Sum o = calls.Sum o
 owner_call owner.Report o = calls.Report o
+owner_call owner.Context o = calls.Context o
 owner_call owner.Immediate o = calls.Immediate o
 
 abbrev pub owner_object_call : OwnerObjectVerb → Owner → Obj → Call
@@ -124,9 +125,9 @@ no_object = record { 0 = 0 }
 
 -- a call of this verb, whatever its fields
 abbrev pub some_call : Verb → Call
-some_call (verbs.Context verb) = context_call verb
+some_call (verbs.Context verb) = context_call verb no_object
 some_call (verbs.Object verb) = object_call verb no_object
-some_call (verbs.ObjectContext verb) = object_context_call verb no_object
+some_call (verbs.ObjectContext verb) = object_context_call verb no_object no_object
 some_call (verbs.Owner verb) = owner_call verb Root
 some_call (verbs.OwnerObject verb) = owner_object_call verb Root no_object
 some_call (verbs.Number verb) = number_call verb no_object 0
@@ -136,32 +137,39 @@ some_call (verbs.Size verb) = size_call verb Root 0 []
 some_call verbs.Reparent = calls.Reparent Root Root no_object
 some_call verbs.Hook = calls.Hook no_object 0
 some_call verbs.Rename = calls.Rename no_object []
-some_call verbs.Schedule = calls.Schedule no_object 0 0
-some_call verbs.Timer = calls.Timer Root 0 0 0
-some_call verbs.Fd = calls.Fd Root 0 0 0 0
+some_call verbs.Schedule = calls.Schedule no_object 0 0 no_object
+some_call verbs.Timer = calls.Timer Root 0 0 0 no_object
+some_call verbs.Fd = calls.Fd Root 0 0 0 0 no_object
 some_call verbs.Flags = calls.Flags no_object 0
-some_call verbs.Endtime = calls.Endtime no_object 0
+some_call verbs.Endtime = calls.Endtime no_object 0 no_object
 some_call verbs.Read = calls.Read 0 0
 some_call verbs.Write = calls.Write 0 []
 some_call verbs.Callback = calls.Callback no_object 0 0
 some_call verbs.Queue = calls.Queue Root []
-some_call verbs.Enqueue = calls.Enqueue no_object no_object 0 0
+some_call verbs.Enqueue = calls.Enqueue no_object no_object 0 0 no_object
 some_call verbs.Now = calls.Now
 
 abbrev pub word_of : Verb → List ℕ
 word_of verb = (spelling One (some_call verb)).verb
 
--- the forms whose verbs have such a number of letters
+-- version 1 has all verbs but the one that makes a context
+abbrev pub has_verb : Version → Verb → Bool
+has_verb One (verbs.Owner owner.Context) = false
+has_verb v verb = true
+
+-- the forms of version 2 whose verbs have such a number of letters
 abbrev pub forms_of : (ℕ → Bool) → List Form
-forms_of letters = filter (λ f. letters (length f.verb)) forms
+forms_of letters = filter (λ f. letters (length f.verb)) (forms Two)
 
 -- a word is this verb, or the verb of none of these forms
 abbrev pub IsVerbIn : List Form → Option Verb → List ℕ → Type 0
 IsVerbIn fs None word = form_in fs word ≡ None
 IsVerbIn fs (Some verb) word = word ≡ word_of verb
 
-abbrev pub IsVerb : Option Verb → List ℕ → Type 0
-IsVerb verb word = IsVerbIn forms verb word
+-- a word is this verb, which the version has, or no verb of the version
+abbrev pub IsVerb : Version → Option Verb → List ℕ → Type 0
+IsVerb v None word = form_in (forms v) word ≡ None
+IsVerb v (Some verb) word = form_in (forms v) word ≡ Some (reading_of verb)
 
 -- the call of this verb whose fields the words begin with, and the words that it leaves
 unfoldable pub fields_read : Version → Verb → List (List ℕ) → Option (Call × List (List ℕ))

@@ -17,12 +17,12 @@ use std::alloc::Global;
 use tree_specs::{Call, Version};
 
 /// The call that the text spells, as the grammar defines it.
-#[tactic(auto, using(crate::proofs::Verbs::no_verb, crate::proofs::Verbs::no_fields, crate::proofs::Verbs::no_end, crate::proofs::Verbs::all_read))]
+#[tactic(auto, using(crate::proofs::Verbs::no_verb, crate::proofs::Verbs::no_fields))]
 fn call_value(alloc: Global, text: &[u8], version: Version) -> Result<Call, FormFault>
     ensures { Reads result (call_of version text.now) }
 {
     let (word, rest) = split_word(text);
-    let verb = read_verb(word).ok_or(FormFault::NoForm)?;
+    let verb = read_verb(version, word).ok_or(FormFault::NoForm)?;
     let mut fields = Fields::make(alloc, rest);
     let call = read_fields(version, verb, &mut fields)?;
     fields.end()?;

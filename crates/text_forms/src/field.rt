@@ -142,17 +142,13 @@ impl<'a> Fields<'a> {
         read_name(self.alloc, text, version)
     }
 
-    /// The context that a call says last, where one is said: 0, as there is no other than the first one.
-    #[tactic(auto, unfolding(tree_specs::specs::Texts::Grammar::context_of))]
-    pub(crate) fn context(&mut self, version: Version) -> Result<(), FormFault>
+    /// The context that a call says last; where none is said it is the first one.
+    pub(crate) fn context(&mut self, version: Version) -> Result<Obj, FormFault>
         ensures { Takes result (context_at version self.old) self.new }
     {
         match version {
-            Version::One => Ok(()),
-            Version::Two => match self.digits()? {
-                0 => Ok(()),
-                _ => Err(FormFault::NoForm),
-            },
+            Version::One => Ok(Obj::first_context()),
+            Version::Two => self.object(),
         }
     }
 

@@ -4,6 +4,7 @@
 
 mod call_reader;
 mod call_writer;
+mod context;
 mod field;
 mod form;
 mod name;
@@ -22,6 +23,7 @@ mod verb_words;
 
 pub use call_reader::read_call;
 pub use call_writer::{the_bytes_of_a_call_are_bytes, write_call};
+pub use context::is_in_context;
 pub use field::number_field;
 pub use form::FormFault;
 pub use name::read_name;

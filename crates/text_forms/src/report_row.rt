@@ -23,6 +23,7 @@ fn kind_word(kind: RowKind) -> &'static [u8]
         RowKind::Request => b"request",
         RowKind::Queue => b"queue",
         RowKind::Entry => b"entry",
+        RowKind::Context => b"context",
     }
 }
 

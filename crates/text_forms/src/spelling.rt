@@ -8,9 +8,6 @@ ghost use Rattle.text_forms.specs.Spelled.{fields_text};
 
 use tree_specs::{Call, Name, Octets};
 
-/// The number of the context that each call is in: the first one, as there is no other.
-const FIRST_CONTEXT: u64 = 0;
-
 /// The fields of a call, in order: so many numbers, with the context as one, and a name or bytes behind them.
 pub(crate) enum CallFields<'a> {
     Bare,
@@ -48,7 +45,7 @@ pub(crate) fn spell(call: &Call) -> Spelling<'_>
 {
     spelled!(call:
         CallFields::Bare, of Now {} b"now";
-        CallFields::One(FIRST_CONTEXT), of Pending {} b"pending", Turn {} b"turn";
+        CallFields::One(context.0), of Pending { context } b"pending", Turn { context } b"turn";
         CallFields::One(x.0), of
             Free { x } b"free", Freekids { x } b"freekids", Unhook { x } b"unhook", Parent { x } b"parent",
             Unschedule { x } b"unschedule", Getflags { x } b"getflags", Autoclose { x } b"autoclose",
@@ -58,28 +55,29 @@ pub(crate) fn spell(call: &Call) -> Spelling<'_>
             Start { queue } b"start", Stop { queue } b"stop", Length { queue } b"length", Running { queue } b"running";
         CallFields::One(owner.number()), of
             Total { owner } b"total", Count { owner } b"count", Sum { owner } b"sum", Report { owner } b"report",
-            Immediate { owner } b"immediate";
+            Context { owner } b"context", Immediate { owner } b"immediate";
         CallFields::One(u64::from(*fd)), of Close { fd } b"close", Accept { fd } b"accept";
         CallFields::Two(owner.number(), x.0), of
             Steal { owner, x } b"steal", Move { owner, x } b"move", Reference { owner, x } b"reference",
             Unlink { owner, x } b"unlink";
         CallFields::Two(x.0, *n), of
             Resize { x, size: n } b"resize", Limit { x, max: n } b"limit", Error { x, error: n } b"error";
-        CallFields::Two(x.0, FIRST_CONTEXT), of Defer { x } b"defer", Post { x } b"post";
+        CallFields::Two(x.0, context.0), of Defer { x, context } b"defer", Post { x, context } b"post";
         CallFields::Two(x.0, u64::from(*routine)), of
             Hook { x, routine } b"hook", Cleanup { x, routine } b"cleanup", Setcancel { x, routine } b"setcancel";
         CallFields::Two(x.0, u64::from(*flags)), of Flags { x, flags } b"flags";
         CallFields::Two(u64::from(*fd), u64::from(*len)), of Read { fd, len } b"read";
         CallFields::Three(from.number(), to.number(), x.0), of Reparent { from, to, x } b"reparent";
         CallFields::Three(x.0, u64::from(*routine), *user), of Callback { x, routine, user } b"callback";
-        CallFields::Three(x.0, *time, FIRST_CONTEXT), of Endtime { x, time } b"endtime";
-        CallFields::Four(x.0, u64::from(*routine), *user, FIRST_CONTEXT), of Schedule { x, routine, user } b"schedule";
-        CallFields::Five(owner.number(), *time, u64::from(*routine), *user, FIRST_CONTEXT), of
-            Timer { owner, time, routine, user } b"timer";
-        CallFields::Five(queue.0, x.0, u64::from(*routine), *user, FIRST_CONTEXT), of
-            Enqueue { queue, x, routine, user } b"enqueue";
-        CallFields::Six(owner.number(), u64::from(*fd), u64::from(*flags), u64::from(*routine), *user, FIRST_CONTEXT), of
-            Fd { owner, fd, flags, routine, user } b"fd";
+        CallFields::Three(x.0, *time, context.0), of Endtime { x, time, context } b"endtime";
+        CallFields::Four(x.0, u64::from(*routine), *user, context.0), of
+            Schedule { x, routine, user, context } b"schedule";
+        CallFields::Five(owner.number(), *time, u64::from(*routine), *user, context.0), of
+            Timer { owner, time, routine, user, context } b"timer";
+        CallFields::Five(queue.0, x.0, u64::from(*routine), *user, context.0), of
+            Enqueue { queue, x, routine, user, context } b"enqueue";
+        CallFields::Six(owner.number(), u64::from(*fd), u64::from(*flags), u64::from(*routine), *user, context.0), of
+            Fd { owner, fd, flags, routine, user, context } b"fd";
         CallFields::OneAndName(x.0, name), of Rename { x, name } b"rename";
         CallFields::OneAndName(owner.number(), name), of Queue { owner, name } b"queue";
         CallFields::TwoAndName(owner.number(), *size, name), of

@@ -43,6 +43,7 @@ pub(crate) enum OwnerVerb {
     Count,
     Sum,
     Report,
+    Context,
     Immediate,
 }
 

@@ -22,23 +22,14 @@ macro_rules! call {
     };
 }
 
-/// The same call with its context, where one is said, behind these fields.
-macro_rules! call_in_context {
-    ($call:ident { $($name:ident: $kind:ident),* } from $fields:ident of $version:ident) => {{
-        $(let $name = $fields.$kind()?;)*
-        $fields.context($version)?;
-        Ok(Call::$call { $($name),* })
-    }};
-}
-
 /// The call of this verb, whose context comes next, where one is said.
 fn read_context(version: Version, verb: ContextVerb, fields: &mut Fields) -> Result<Call, FormFault>
     ensures { Takes result (taken version (reading_of (verbs.Context verb)) fields.old) fields.new }
 {
-    fields.context(version)?;
+    let context = fields.context(version)?;
     match verb {
-        ContextVerb::Pending => Ok(Call::Pending),
-        ContextVerb::Turn => Ok(Call::Turn),
+        ContextVerb::Pending => Ok(Call::Pending { context }),
+        ContextVerb::Turn => Ok(Call::Turn { context }),
     }
 }
 
@@ -84,10 +75,10 @@ fn read_object_context(
     ensures { Takes result (taken version (reading_of (verbs.ObjectContext verb)) fields.old) fields.new }
 {
     let x = fields.object()?;
-    fields.context(version)?;
+    let context = fields.context(version)?;
     match verb {
-        ObjectContextVerb::Defer => Ok(Call::Defer { x }),
-        ObjectContextVerb::Post => Ok(Call::Post { x }),
+        ObjectContextVerb::Defer => Ok(Call::Defer { x, context }),
+        ObjectContextVerb::Post => Ok(Call::Post { x, context }),
     }
 }
 
@@ -101,6 +92,7 @@ fn read_owner(verb: OwnerVerb, fields: &mut Fields) -> Result<Call, FormFault>
         OwnerVerb::Count => Ok(Call::Count { owner }),
         OwnerVerb::Sum => Ok(Call::Sum { owner }),
         OwnerVerb::Report => Ok(Call::Report { owner }),
+        OwnerVerb::Context => Ok(Call::Context { owner }),
         OwnerVerb::Immediate => Ok(Call::Immediate { owner }),
     }
 }
@@ -193,21 +185,21 @@ fn read_rename(version: Version, fields: &mut Fields) -> Result<Call, FormFault>
 fn read_schedule(version: Version, fields: &mut Fields) -> Result<Call, FormFault>
     ensures { Takes result (taken version (reading_of verbs.Schedule) fields.old) fields.new }
 {
-    call_in_context!(Schedule { x: object, routine: number32, user: number } from fields of version)
+    call!(Schedule { x: object, routine: number32, user: number, context: context(version) } from fields)
 }
 
 /// The call `timer`, whose fields come next.
 fn read_timer(version: Version, fields: &mut Fields) -> Result<Call, FormFault>
     ensures { Takes result (taken version (reading_of verbs.Timer) fields.old) fields.new }
 {
-    call_in_context!(Timer { owner: owner, time: time, routine: routine, user: number } from fields of version)
+    call!(Timer { owner: owner, time: time, routine: routine, user: number, context: context(version) } from fields)
 }
 
 /// The call `fd`, whose fields come next.
 fn read_fd(version: Version, fields: &mut Fields) -> Result<Call, FormFault>
     ensures { Takes result (taken version (reading_of verbs.Fd) fields.old) fields.new }
 {
-    call_in_context!(Fd { owner: owner, fd: number32, flags: flags, routine: routine, user: number } from fields of version)
+    call!(Fd { owner: owner, fd: number32, flags: flags, routine: routine, user: number, context: context(version) } from fields)
 }
 
 /// The call `flags`, whose fields come next.
@@ -221,7 +213,7 @@ fn read_flags(fields: &mut Fields) -> Result<Call, FormFault>
 fn read_endtime(version: Version, fields: &mut Fields) -> Result<Call, FormFault>
     ensures { Takes result (taken version (reading_of verbs.Endtime) fields.old) fields.new }
 {
-    call_in_context!(Endtime { x: object, time: time } from fields of version)
+    call!(Endtime { x: object, time: time, context: context(version) } from fields)
 }
 
 /// The call `read`, whose fields come next.
@@ -256,7 +248,7 @@ fn read_queue(version: Version, fields: &mut Fields) -> Result<Call, FormFault>
 fn read_enqueue(version: Version, fields: &mut Fields) -> Result<Call, FormFault>
     ensures { Takes result (taken version (reading_of verbs.Enqueue) fields.old) fields.new }
 {
-    call_in_context!(Enqueue { queue: object, x: object, routine: routine, user: number } from fields of version)
+    call!(Enqueue { queue: object, x: object, routine: routine, user: number, context: context(version) } from fields)
 }
 
 /// The call of this verb, whose fields come next.

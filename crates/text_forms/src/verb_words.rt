@@ -2,13 +2,16 @@
 // In an arm of a byte string each byte is known: together they are the word.
 #![tactic(auto, using(std::proofs::lemmas::Slice::Eq::text_from_reads))]
 
-ghost use Rattle.std.specs.Prelude.{nat_eq, nat_lt};
-ghost use Rattle.text_forms.specs.Verbs.{forms_of, IsVerb, IsVerbIn};
+ghost use Rattle.std.specs.Prelude.{◌≡◌, nat_eq, nat_lt};
+ghost use Rattle.tree_specs.specs.declared.schedule.Version.TheVariants.{Two};
+ghost use Rattle.tree_specs.specs.Calls.Spelling.{forms};
+ghost use Rattle.text_forms.specs.Verbs.{forms_of, has_verb, IsVerb, IsVerbIn};
 
 use crate::verb::{
     ContextVerb, DescriptorVerb, NumberVerb, ObjectContextVerb, ObjectVerb, OwnerObjectVerb,
     OwnerVerb, RoutineVerb, SizeVerb, Verb,
 };
+use tree_specs::Version;
 
 /// The verb that this word of three letters or fewer is.
 fn short_verb(word: &[u8]) -> Option<Verb>
@@ -92,6 +95,7 @@ fn verb_of_7(word: &[u8]) -> Option<Verb>
         b"enqueue" => Some(Verb::Enqueue),
         b"running" => Some(Verb::Object(ObjectVerb::Running)),
         b"pending" => Some(Verb::Context(ContextVerb::Pending)),
+        b"context" => Some(Verb::Owner(OwnerVerb::Context)),
         _ => None,
     }
 }
@@ -126,9 +130,9 @@ fn long_verb(word: &[u8]) -> Option<Verb>
     }
 }
 
-/// The verb that this word is.
-pub(crate) fn read_verb(word: &[u8]) -> Option<Verb>
-    ensures { IsVerb result word.now }
+/// The verb that this word is in version 2, which has all verbs.
+fn any_verb(word: &[u8]) -> Option<Verb>
+    ensures { IsVerbIn (forms Two) result word.now }
 {
     match word.len() {
         0..=3 => short_verb(word),
@@ -138,5 +142,27 @@ pub(crate) fn read_verb(word: &[u8]) -> Option<Verb>
         7 => verb_of_7(word),
         8 => verb_of_8(word),
         _ => long_verb(word),
+    }
+}
+
+/// Whether a version has this verb.
+fn has_verb(version: Version, verb: Verb) -> bool
+    ensures { result ≡ has_verb version verb }
+{
+    match (version, verb) {
+        (Version::One, Verb::Owner(OwnerVerb::Context)) => false,
+        _ => true,
+    }
+}
+
+/// The verb that this word is in a version.
+pub(crate) fn read_verb(version: Version, word: &[u8]) -> Option<Verb>
+    ensures { IsVerb version result word.now }
+{
+    let verb = any_verb(word)?;
+    if has_verb(version, verb) {
+        Some(verb)
+    } else {
+        None
     }
 }

@@ -4,8 +4,6 @@ use Rattle.std.proofs.lemmas.Bool.{eqb-true, eq-eqb}
 use Rattle.std.proofs.lemmas.List.{length-append}
 use Rattle.std.proofs.lemmas.Option.{slice_get_past, slice_get_within}
 use Rattle.std.specs.Option.{option_map}
-use Rattle.std.specs.FinMap as map
-use Rattle.std.specs.Ordering.{nat_cmp}
 use Rattle.tree_specs.specs.declared.due.Due.{Due}
 use Rattle.tree_specs.proofs.Tree.Numbered.{by_test}
 use Rattle.timers.specs.Heaped.{Told, object_of, is_early, IsHeap, Rises, with_place, Places, IsKept}
@@ -83,5 +81,5 @@ module _ (ds : List Due) (d : Due) (P P' : ℕ → Option ℕ) (k : Places (slic
       record { there = λ i f u. e f.object.0 ∙ new-there i f u; back = λ q i u. new-back q i (sym (e q) ∙ u) }
 
 -- all that holds, from the heap and the places
-pub kept : (N : ℕ → Option Due) (es : List Due) (m : map.FinMap nat_cmp ℕ) → IsHeap (slice_get es) → Places (slice_get es) (map.get m) → Told N es → IsKept es m
-kept N es m h k t = record { heap = h; places = k; told = told-own N es t }
+pub kept : (N : ℕ → Option Due) (es : List Due) (P : ℕ → Option ℕ) → IsHeap (slice_get es) → Places (slice_get es) P → Told N es → IsKept es P
+kept N es P h k t = record { heap = h; places = k; told = told-own N es t }

@@ -1,6 +1,6 @@
 -- Which objects are held, and which time is the first.
-use Rattle.std.proofs.Common.{◌≡◌, ℕ, zero, suc, ◌<◌, ◌≤◌, ◌/◌, ◌==◌, List, [], ◌∷◌, length, slice_get, Option, Some, None, Bool, true, false, IsTrue, refl, sym, ◌∙◌, ap, arith}
-use Rattle.std.proofs.lemmas.Bool.{eqb-true, eq-eqb}
+use Rattle.std.proofs.Common.{◌≡◌, ℕ, zero, suc, ◌<◌, ◌≤◌, ◌/◌, ◌-◌, get_or, List, [], ◌∷◌, length, slice_get, Option, Some, None, true, false, refl, sym, ◌∙◌, ap, arith}
+use Rattle.std.proofs.lemmas.Bool.{eqb-true}
 use Rattle.std.proofs.lemmas.Option.{slice_get_within, slice_get-get_or}
 use Rattle.std.specs.Option.{option_map}
 use Rattle.tree_specs.specs.declared.due.Due.{Due}
@@ -50,15 +50,6 @@ module _ (ds : List Due) (P : ℕ → Option ℕ) (k : Places (slice_get ds) P) 
       go None u h = cc
       go (Some d) u h = (d, u, cc)
 
-  pub none-placed : (x : Obj) → is_armed ds x ≡ false → P x.0 ≡ None
-  none-placed x n = go (P x.0) refl
-    where
-      go : (o : Option ℕ) → P x.0 ≡ o → P x.0 ≡ None
-      go None e = e
-      go (Some i) e =
-          let d = due-at x.0 i e in
-          let bad : true ≡ false = sym (armed-at ds i d.0 x d.1 (eq-eqb d.0.object.0 x.0 d.2)) ∙ n in cc
-
 -- ---- the first
 
 halves : (j : ℕ) → IsChild (j / 2) (suc j)
@@ -75,7 +66,7 @@ top-none ds h (suc n) (suc j) l d r e f =
     none-both r b.0 d (top-none ds h n p (omega (arith, l)) b.0 r b.1 f) ((λ i. is_early (sym e i) (sym b.1 i)) ∙ h p (suc j) (halves j))
   where
     get_at : {p : ℕ} → p < length ds → (b : Due) × (slice_get ds p ≡ Some b)
-    get_at {p} w = (Rattle.std.proofs.Common.get_or ds p d, slice_get-get_or ds p d w)
+    get_at {p} w = (get_or ds p d, slice_get-get_or ds p d w)
 
 none-all : (r : Due) (ds : List Due) → ((k : ℕ) (d : Due) → slice_get ds k ≡ Some d → comes_before d r ≡ false) → NoneBefore r ds
 none-all r [] h = tt
@@ -89,7 +80,13 @@ pub sorted-none : (ds : List Due) → sorted ds ≡ [] → ds ≡ []
 sorted-none [] e = refl
 sorted-none (d ∷ ds) e = let l = length-sorted (d ∷ ds) in let n : length (sorted (d ∷ ds)) ≡ 0 = ap length e in absurd (omega (arith, l, n))
 
--- none is told by their number
-pub none-sorted : (ds : List Due) (b : Bool) → b ≡ (length ds == 0) → (IsTrue b → ds ≡ []) × (sorted ds ≡ [] → IsTrue b)
-none-sorted [] b e = (λ t. refl, λ n. e)
-none-sorted (d ∷ ds) b e = (λ t. let bad : suc (length ds) ≡ 0 = eqb-true (suc (length ds)) 0 (sym e ∙ t) in absurd (omega (arith, bad)), λ n. let bad = sorted-none (d ∷ ds) n in cc)
+-- the first of the heap is the first of all
+pub top-same : (N : ℕ → Option Due) (ds : List Due) → IsHeap (slice_get ds) → Told N ds → slice_get ds 0 ≡ slice_get (sorted ds) 0
+top-same N [] h t = refl
+top-same N (d ∷ ds) h t = sym (top-first N (d ∷ ds) d h t refl)
+
+-- ---- the last place
+
+pub last-none : (ds : List Due) → slice_get ds (length ds - 1) ≡ None → ds ≡ []
+last-none [] e = refl
+last-none (d ∷ ds) e = let bad : Some (get_or (d ∷ ds) (length (d ∷ ds) - 1) d) ≡ None = sym (slice_get-get_or (d ∷ ds) (length (d ∷ ds) - 1) d (omega arith)) ∙ e in cc

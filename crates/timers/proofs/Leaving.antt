@@ -1,5 +1,5 @@
 -- What a time that goes leaves of the heap and the places.
-use Rattle.std.proofs.Common.{◌≡◌, ◌≢◌, ℕ, ◌<◌, ◌≤◌, cond, nat_eq, List, [], ◌∷◌, ◌++◌, length, set, slice_get, get_or, Option, Some, None, IsSome, is_some, true, false, sym, ◌∙◌, ap, arith}
+use Rattle.std.proofs.Common.{◌≡◌, ◌≢◌, ℕ, ◌<◌, ◌≤◌, cond, nat_eq, List, [], ◌∷◌, ◌++◌, length, set, slice_get, get_or, Option, Some, None, true, false, sym, ◌∙◌, ap, arith}
 use Rattle.std.proofs.lemmas.Bool.{eqb-true, eq-eqb}
 use Rattle.std.proofs.lemmas.List.{length-append, length-set}
 use Rattle.std.proofs.lemmas.Option.{slice_get_past, slice_get_within, slice_get-get_or}
@@ -36,9 +36,6 @@ module _ (ds : List Due) (z : Due) (at : ℕ) (P : ℕ → Option ℕ) (h : IsHe
 
     last-there : P z.object.0 ≡ Some (length ds)
     last-there = k.there (length ds) z (at-end ds z) (not-above at (length ds) in_at)
-
-    pub last-held : IsSome (P z.object.0)
-    last-held = ap is_some last-there
 
     early-past : (j : ℕ) (o : Option Due) → length ds ≤ j → is_early (V j) o ≡ false
     early-past j o l = ap (λ w. is_early w o) (v-past j l)

@@ -6,4 +6,9 @@ pub mod Sifting
 pub mod Holding
 pub mod Entering
 pub mod Leaving
+pub mod Noting
+pub mod Written
+pub mod Contexts
+pub mod Changes
+pub mod Keeping
 pub mod ByObject

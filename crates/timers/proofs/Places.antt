@@ -1,7 +1,6 @@
 -- What one step leaves of the places.
 use Rattle.std.proofs.Common.{◌≡◌, ◌≢◌, ℕ, zero, suc, ◌<◌, cond, nat_eq, List, [], ◌∷◌, length, set, slice_get, Option, Some, None, IsSome, true, false, is_some, refl, sym, ◌∙◌, ap, arith}
 use Rattle.std.proofs.lemmas.Bool.{eqb-true, eq-eqb}
-use Rattle.std.proofs.lemmas.List.{length-set}
 use Rattle.std.specs.Option.{option_map}
 use Rattle.tree_specs.specs.declared.due.Due.{Due}
 use Rattle.tree_specs.proofs.Tree.Numbered.{by_test}
@@ -21,14 +20,6 @@ set-other (f ∷ fs) zero zero d n = absurd (n refl)
 set-other (f ∷ fs) zero (suc k) d n = refl
 set-other (f ∷ fs) (suc i) zero d n = refl
 set-other (f ∷ fs) (suc i) (suc k) d n = set-other fs i k d (λ e. n (ap suc e))
-
--- two writes that change two places
-pub set-swaps : (ds : List Due) (i j : ℕ) (a b : Due) → i < length ds → j < length ds → i ≢ j → slice_get ds i ≡ Some a → slice_get ds j ≡ Some b → Swaps (slice_get ds) (slice_get (set (set ds i b) j a)) i j
-set-swaps ds i j a b l m n e f = record {
-  first = set-other (set ds i b) j i a n ∙ set-same ds i b l ∙ sym f;
-  second = set-same (set ds i b) j a (omega (arith, m, length-set ds i b)) ∙ sym e;
-  others = λ k p q. set-other (set ds i b) j k a q ∙ set-other ds i k b p;
-}
 
 -- ---- one write of the places
 

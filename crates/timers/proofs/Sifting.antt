@@ -1,9 +1,11 @@
 -- One step up or down, as the writes of the heap make it.
-use Rattle.std.proofs.Common.{◌≡◌, ◌≢◌, ℕ, zero, suc, ◌+◌, ◌<◌, List, [], ◌∷◌, length, get_or, set, slice_get, Option, Some, None, IsSome, is_some, ◌*◌, ◌^◌, true, false, refl, sym, ◌∙◌, ap, subst, arith}
+use Rattle.std.proofs.Common.{◌≡◌, ◌≢◌, ℕ, zero, suc, ◌+◌, ◌<◌, cond, nat_eq, List, [], ◌∷◌, length, get_or, set, slice_get, Option, Some, None, IsSome, is_some, ◌*◌, ◌^◌, true, false, refl, sym, ◌∙◌, ap, subst, arith}
+use Rattle.std.proofs.lemmas.Bool.{eqb-true}
 use Rattle.std.proofs.lemmas.List.{length-set}
 use Rattle.std.proofs.lemmas.Option.{slice_get_within, slice_get_read}
 use Rattle.tree_specs.specs.declared.due.Due.{Due}
 use Rattle.tree_specs.specs.Events.Pending.{comes_before}
+use Rattle.tree_specs.proofs.Tree.Numbered.{by_test}
 use Rattle.timers.specs.Heaped.{sorted, Told, is_early, IsChild, IsHeap, IsLateParent, IsEarlyChild, IsFirstOfTwo, Rises, Sinks, Settles, Sifts, IsNext, places_left, Places, Reorders, with_place}
 use Rattle.timers.specs.declared.heap.Way.{Way}
 use Rattle.timers.specs.declared.heap.Way.TheVariants.{Up, Down}
@@ -49,25 +51,29 @@ module _ (ds : List Due) (at p : ℕ) (d f : Due) (in_at : at < length ds) (in_p
 -- ---- the steps of the code
 
 -- what holds once the time f of the place p has come to `at`, where d was to go, and d is to go to p
-pub record Gone (ds es : List Due) (P' : ℕ → Option ℕ) (at p : ℕ) (d : Due) : Type 0 where
+pub record Gone (ds es : List Due) (P P' : ℕ → Option ℕ) (at p : ℕ) (d f : Due) : Type 0 where
   pub within : p < length es
+  pub moved : IsSome (P f.object.0)
   pub held : IsSome (P' d.object.0)
   pub places : Places (slice_get (set es p d)) (with_place P' d.object.0 p)
   pub dues : Reorders (set ds at d) (set es p d)
 
 module _ (ds es : List Due) (P P' : ℕ → Option ℕ) (at p : ℕ) (d f : Due) (in_at : at < length ds) (held : IsSome (P d.object.0))
     (k : Places (slice_get (set ds at d)) (with_place P d.object.0 at)) (read : f ≡ get_or ds p f) (e : es ≡ set ds at f) (write : (q : ℕ) → P' q ≡ noted P f.object.0 at q) where
-  went : (in_p : p < length ds) → at ≢ p → Gone ds es P' at p d
+  went : (in_p : p < length ds) → at ≢ p → Gone ds es P P' at p d f
   went in_p apart =
       let is : slice_get ds p ≡ Some f = slice_get_read ds (length ds) p f refl in_p read in
       let l = length-set ds at f in record {
+        moved = by_test (nat_eq d.object.0 f.object.0)
+            (λ t. ap (λ q. is_some (P q)) (sym (eqb-true d.object.0 f.object.0 t)) ∙ held)
+            (λ t. ap is_some (sym (ap (λ b. cond b (Some at) (P f.object.0)) t) ∙ k.there p f (other ds at p d f in_at in_p apart is)));
         within = (let l' : length es ≡ length ds = ap length e ∙ l in omega (arith, l', in_p));
         held = held-noted P P' f.object.0 at d.object.0 write held;
         places = subst (λ l. Places (slice_get (set l p d)) (with_place P' d.object.0 p)) (sym e) (replaced ds at p d f in_at in_p apart is P P' k write);
         dues = subst (λ l. Reorders (set ds at d) (set l p d)) (sym e) (stepped ds at p d f in_at in_p apart is);
       }
 
-  rise-goes : Rises (slice_get (set ds at d)) at → IsLateParent (slice_get ds) at d (Some p) → Gone ds es P' at p d × Rises (slice_get (set es p d)) p
+  rise-goes : Rises (slice_get (set ds at d)) at → IsLateParent (slice_get ds) at d (Some p) → Gone ds es P P' at p d f × Rises (slice_get (set es p d)) p
   rise-goes r late =
       let some = early-some (Some d) (slice_get ds p) late.1 in
       let in_p = slice_get_within ds p some.0 some.1 in
@@ -77,7 +83,7 @@ module _ (ds es : List Due) (P P' : ℕ → Option ℕ) (at p : ℕ) (d f : Due)
         subst (λ l. Rises (slice_get (set l p d)) p) (sym e) (risen ds at p d f in_at in_p apart is r late.0 (ap (is_early (Some d)) (sym is) ∙ late.1)),
       )
 
-  sink-goes : Sinks (slice_get (set ds at d)) at → IsEarlyChild (slice_get ds) at d (Some p) → Gone ds es P' at p d × Sinks (slice_get (set es p d)) p
+  sink-goes : Sinks (slice_get (set ds at d)) at → IsEarlyChild (slice_get ds) at d (Some p) → Gone ds es P P' at p d f × Sinks (slice_get (set es p d)) p
   sink-goes r early =
       let in_p : p < length ds = there (slice_get ds p) refl early.1 in
       let is : slice_get ds p ≡ Some f = slice_get_read ds (length ds) p f refl in_p read in
@@ -91,7 +97,7 @@ module _ (ds es : List Due) (P P' : ℕ → Option ℕ) (at p : ℕ) (d f : Due)
       there None u h = let bad : false ≡ true = ap (λ w. is_early w (Some d)) (sym u) ∙ h in cc
       there (Some g) u h = slice_get_within ds p g u
 
-  pub sift-goes : (way : Way) → Sifts way (slice_get (set ds at d)) at → IsNext way (slice_get ds) at d (Some p) → Gone ds es P' at p d × Sifts way (slice_get (set es p d)) p
+  pub sift-goes : (way : Way) → Sifts way (slice_get (set ds at d)) at → IsNext way (slice_get ds) at d (Some p) → Gone ds es P P' at p d f × Sifts way (slice_get (set es p d)) p
   sift-goes Up r next = rise-goes r next
   sift-goes Down r next = sink-goes r next
 

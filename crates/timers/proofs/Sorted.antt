@@ -116,9 +116,6 @@ told-more ds d t n = (
 
 -- ---- other places
 
-pub reorders-none : (ds : List Due) → Reorders ds ds
-reorders-none ds = record { count = refl; order = λ N t. refl; told = λ N t. t }
-
 pub reorders-both : (ds es fs : List Due) → Reorders ds es → Reorders es fs → Reorders ds fs
 reorders-both ds es fs r s = record {
   count = s.count ∙ r.count;

@@ -1,9 +1,7 @@
--- The times as a heap keeps them, and the place of each object in it.
+-- The times of one context as a heap keeps them, and the place of each object in it.
 use Rattle.std.specs.Prelude.{◌≡◌, ◌≢◌, ℕ, ◌+◌, ◌-◌, ◌^◌, ◌<◌, ◌≤◌, Bool, true, false, cond, nat_eq, List, [], ◌∷◌, length, slice_get, Option, Some, None, IsSome}
 use Rattle.std.specs.List.{find}
 use Rattle.std.specs.Option.{option_map}
-use Rattle.std.specs.Ordering.{nat_cmp}
-use Rattle.std.specs.FinMap as map
 use Rattle.tree_specs.specs.declared.due.Due.{Due}
 use Rattle.tree_specs.specs.Events.Pending.{comes_before, put_in}
 use Rattle.timers.specs.declared.heap.Way.{Way}
@@ -127,8 +125,8 @@ pub record PlacesBut (H : ℕ → Option Due) (P : ℕ → Option ℕ) (at : ℕ
   pub there : (i : ℕ) (d : Due) → H i ≡ Some d → i ≢ at → P d.object.0 ≡ Some i
   pub back : (q i : ℕ) → P q ≡ Some i → (i ≢ at) × (option_map object_of (H i) ≡ Some q)
 
--- what holds of the fields
-pub record IsKept (ds : List Due) (m : map.FinMap nat_cmp ℕ) : Type 0 where
+-- what holds of a heap and of the places in it
+pub record IsKept (ds : List Due) (P : ℕ → Option ℕ) : Type 0 where
   pub heap : IsHeap (slice_get ds)
-  pub places : Places (slice_get ds) (map.get m)
+  pub places : Places (slice_get ds) P
   pub told : Told (by_number ds) ds

@@ -1,2 +1,4 @@
 pub mod Timetable
+pub mod Changes
 pub mod Heaped
+pub mod Heaps

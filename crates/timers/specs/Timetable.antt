@@ -1,13 +1,18 @@
 -- The times as their callers see them.
-use Rattle.std.specs.Prelude.{◌≡◌, ℕ, false, List, [], ◌∷◌}
+use Rattle.std.specs.Prelude.{◌≡◌, ℕ, false, List, [], ◌∷◌, Option, Some, None}
 use Rattle.tree_specs.specs.declared.due.Due.{Due}
-use Rattle.tree_specs.specs.Events.Pending.{comes_before, is_armed}
+use Rattle.tree_specs.specs.declared.object.Obj.{Obj}
+use Rattle.tree_specs.specs.Events.Pending.{comes_before, is_armed, disarmed}
 
 pub record Timetable : Type 0 where
-  -- the first one first
+  -- the times of all contexts, the first one first
   pub dues : List Due
-  -- so many can be added without taking memory
+  -- the contexts beside the first one
+  pub contexts : List Obj
+  -- so many can be added without taking memory, in whatever context
   pub spare : ℕ
+  -- so many contexts can be added without taking memory
+  pub contexts_spare : ℕ
 
 -- none of these comes before it
 abbrev pub NoneBefore : Due → List Due → Type 0
@@ -23,6 +28,11 @@ AreInOrder (d ∷ ds) = NoneBefore d ds × AreInOrder ds
 abbrev pub AreOnce : List Due → Type 0
 AreOnce [] = Unit {0}
 AreOnce (d ∷ ds) = (is_armed ds d.object ≡ false) × AreOnce ds
+
+-- those that are left once this one has come, if one has
+abbrev pub left_after : Option Due → List Due → List Due
+left_after None ds = ds
+left_after (Some d) ds = disarmed ds d.object
 
 -- the number of each is that of its object
 abbrev pub AreByObject : List Due → Type 0

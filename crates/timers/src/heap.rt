@@ -1,13 +1,19 @@
-//! A heap of times whose objects know their places in it. None comes before its parent: the parent of place k is place
+//! A heap of the times of one context, whose objects know their places in it. None comes before its parent: the parent of place k is place
 //! (k - 1) / 2.
-ghost use Rattle.std.specs.Prelude.{◌≡◌, ◌<◌, ◌≤◌, ◌+◌, ℕ, Some, None, IsSome, cond, nat_eq, length, vec_capacity, slice_get, set};
-ghost use Rattle.std.specs.Option.{option_map};
-ghost use Rattle.pool_arena.specs.Arena.{get};
+ghost use Rattle.std.specs.Prelude.{◌≡◌, ◌<◌, IsSome, length, vec_len, vec_capacity, slice_get, set};
 ghost use Rattle.tree_specs.specs.Events.Pending.{comes_before as is_before};
-ghost use Rattle.timers.specs.Heaped.{IsEarlyChild, IsFirstOfTwo, IsHeap, IsLateParent, IsNext, IsSettled, Places, PlacesBut, Removes, Settles, Sifts, with_place};
+ghost use Rattle.timers.specs.Heaped.{IsEarlyChild, IsFirstOfTwo, IsLateParent, IsNext, IsSettled, Places, Settles, Sifts, with_place};
+ghost use Rattle.timers.specs.Heaps.{at_in, CanEnter, CanLeave, IsEntered, IsLeft, IsNoted, IsSameBeside};
 
 use pool_arena::Arena;
 use tree_specs::Due;
+
+/// Where the time of an object stands: the number of its context, and the place in the heap of that context.
+#[derive(Clone, Copy)]
+pub(crate) struct Place {
+    pub context: u64,
+    pub at: usize,
+}
 
 /// The way that a time goes in the heap: to its parent's place and on, or to a child's.
 #[derive(Clone, Copy)]
@@ -23,22 +29,22 @@ fn comes_before(due: Due, other: Due) -> bool
     due.time < other.time || (due.time == other.time && due.number < other.number)
 }
 
-/// Notes the place of the object with this number. Nothing changes where it isn't held.
-fn note(places: &mut Arena<usize>, x: u64, at: usize)
-    ensures places { (q : ℕ) → get places.new q ≡ cond (nat_eq x q) (option_map (λ _. at) (get places.old q)) (get places.old q) }
+/// Notes where the object with this number stands in the heap of its context. Nothing changes where it isn't held.
+fn note(places: &mut Arena<Place>, x: u64, at: usize)
+    ensures noted { IsNoted places.old.pairs places.new.pairs x at }
     ensures spare { places.new.spare ≡ places.old.spare }
 {
     if let Some(place) = places.get_mut(x) {
-        *place = at;
+        place.at = at;
     }
 }
 
 /// Puts a time at a place, in place of the one that was there.
-fn put(dues: &mut Vec<Due>, places: &mut Arena<usize>, at: usize, due: Due)
+fn put(dues: &mut Vec<Due>, places: &mut Arena<Place>, at: usize, due: Due)
     requires { at < length dues.old.items }
     ensures dues { dues.new.items ≡ set dues.old.items at due }
     ensures capacity { vec_capacity dues.new ≡ vec_capacity dues.old }
-    ensures places { (q : ℕ) → get places.new q ≡ cond (nat_eq due.object.0 q) (option_map (λ _. at) (get places.old q)) (get places.old q) }
+    ensures noted { IsNoted places.old.pairs places.new.pairs due.object.0 at }
     ensures spare { places.new.spare ≡ places.old.spare }
 {
     dues[at] = due;
@@ -101,12 +107,13 @@ fn next_place(dues: &Vec<Due>, way: Way, at: usize, due: Due) -> Option<usize>
 }
 
 /// Puts a time at a place or at one further on the way, where nothing is out of order but this time with those there.
-pub(crate) fn sift(dues: &mut Vec<Due>, places: &mut Arena<usize>, way: Way, at: usize, due: Due)
+pub(crate) fn sift(dues: &mut Vec<Due>, places: &mut Arena<Place>, way: Way, at: usize, due: Due)
     requires at { at < length dues.old.items }
-    requires held { IsSome (get places.old due.object.0) }
+    requires held { IsSome (at_in places.old.pairs due.context.0 due.object.0) }
     requires heap { Sifts way (slice_get (set dues.old.items at due)) at }
-    requires places { Places (slice_get (set dues.old.items at due)) (with_place (get places.old) due.object.0 at) }
-    ensures settled { IsSettled (set dues.old.items at due) dues.new.items (get places.new) }
+    requires places { Places (slice_get (set dues.old.items at due)) (with_place (at_in places.old.pairs due.context.0) due.object.0 at) }
+    ensures settled { IsSettled (set dues.old.items at due) dues.new.items (at_in places.new.pairs due.context.0) }
+    ensures beside { IsSameBeside places.old.pairs places.new.pairs due.context.0 }
     ensures capacity { vec_capacity dues.new ≡ vec_capacity dues.old }
     ensures spare { places.new.spare ≡ places.old.spare }
 {
@@ -133,12 +140,13 @@ fn way_from(dues: &Vec<Due>, at: usize, due: Due) -> Way
 }
 
 /// Puts a time at a place, or where it belongs above or below it.
-fn settle(dues: &mut Vec<Due>, places: &mut Arena<usize>, at: usize, due: Due)
+fn settle(dues: &mut Vec<Due>, places: &mut Arena<Place>, at: usize, due: Due)
     requires at { at < length dues.old.items }
-    requires held { IsSome (get places.old due.object.0) }
+    requires held { IsSome (at_in places.old.pairs due.context.0 due.object.0) }
     requires heap { Settles (slice_get (set dues.old.items at due)) at }
-    requires places { Places (slice_get (set dues.old.items at due)) (with_place (get places.old) due.object.0 at) }
-    ensures settled { IsSettled (set dues.old.items at due) dues.new.items (get places.new) }
+    requires places { Places (slice_get (set dues.old.items at due)) (with_place (at_in places.old.pairs due.context.0) due.object.0 at) }
+    ensures settled { IsSettled (set dues.old.items at due) dues.new.items (at_in places.new.pairs due.context.0) }
+    ensures beside { IsSameBeside places.old.pairs places.new.pairs due.context.0 }
     ensures capacity { vec_capacity dues.new ≡ vec_capacity dues.old }
     ensures spare { places.new.spare ≡ places.old.spare }
 {
@@ -146,21 +154,31 @@ fn settle(dues: &mut Vec<Due>, places: &mut Arena<usize>, at: usize, due: Due)
     sift(dues, places, way, at, due);
 }
 
+/// Adds a time whose object isn't held.
+pub(crate) fn enter(dues: &mut Vec<Due>, places: &mut Arena<Place>, due: Due)
+    requires room { vec_len dues.old < vec_capacity dues.old }
+    requires place { 0 < places.old.spare }
+    requires can { CanEnter due dues.old.items places.old.pairs }
+    ensures { IsEntered due dues.old.items dues.new.items places.old.pairs places.new.pairs }
+{
+    let at = dues.len();
+    let context = due.context.0;
+    places.add(due.object.0, Place { context, at });
+    dues.push_reserved(due);
+    sift(dues, places, Way::Up, at, due);
+}
+
 /// Takes out the time at a place, whose object isn't held any more. The last one comes to where it belongs.
-pub(crate) fn take_out(dues: &mut Vec<Due>, places: &mut Arena<usize>, at: usize)
-    requires at { at < length dues.old.items }
-    requires heap { IsHeap (slice_get dues.old.items) }
-    requires places { PlacesBut (slice_get dues.old.items) (get places.old) at }
-    ensures heap { IsHeap (slice_get dues.new.items) }
-    ensures places { Places (slice_get dues.new.items) (get places.new) }
-    ensures dues { Removes dues.old.items dues.new.items at }
+pub(crate) fn take_out(dues: &mut Vec<Due>, places: &mut Arena<Place>, place: Place)
+    requires { CanLeave place dues.old.items places.old.pairs }
+    ensures left { IsLeft place dues.old.items dues.new.items places.old.pairs places.new.pairs }
     ensures capacity { vec_capacity dues.new ≡ vec_capacity dues.old }
     ensures spare { places.new.spare ≡ places.old.spare }
 {
     let Some(last) = dues.pop() else {
         return;
     };
-    if at < dues.len() {
-        settle(dues, places, at, last);
+    if place.at < dues.len() {
+        settle(dues, places, place.at, last);
     }
 }

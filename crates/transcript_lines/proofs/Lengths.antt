@@ -227,7 +227,7 @@ row_within = (
                 (
                   refl,
                   at 149948 (omega arith) row_kinds.Immediate,
-                  (refl, at 149955 (omega arith) row_kinds.Fd, (refl, at 149950 (omega arith) row_kinds.Request, (refl, at 149952 (omega arith) row_kinds.Queue, (refl, at 149952 (omega arith) row_kinds.Entry, tt)))),
+                  (refl, at 149955 (omega arith) row_kinds.Fd, (refl, at 149950 (omega arith) row_kinds.Request, (refl, at 149952 (omega arith) row_kinds.Queue, (refl, at 149952 (omega arith) row_kinds.Entry, (refl, at 149950 (omega arith) row_kinds.Context, tt))))),
                 ),
               ),
             ),

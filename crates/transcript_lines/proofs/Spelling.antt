@@ -85,7 +85,7 @@ spells_what next other so each last = each whats.Hook also each whats.Timer also
 
 spells_kind : (next : RowKind → Form) (so : List Part → List Part) → ((kind : RowKind) → Spells (next kind) (λ ps. so (AWord (row_kind_text kind) ∷ ps))) → Spells (a_row_kind next) so
 unfolding row_kind_text
-spells_kind next so each = each row_kinds.Root also each row_kinds.Plain also each row_kinds.Reference also each row_kinds.Timer also each row_kinds.Immediate also each row_kinds.Fd also each row_kinds.Request also each row_kinds.Queue also each row_kinds.Entry also tt
+spells_kind next so each = each row_kinds.Root also each row_kinds.Plain also each row_kinds.Reference also each row_kinds.Timer also each row_kinds.Immediate also each row_kinds.Fd also each row_kinds.Request also each row_kinds.Queue also each row_kinds.Entry also each row_kinds.Context also tt
 
 row_spells : Spells row_form (λ ps. AWord (codes "row") ∷ ps)
 row_spells = λ depth id. spells_kind (row_end depth id) (λ ps. AWord (codes "row") ∷ AField (ANumeral Number32 depth) ∷ AField (ANumeral Number id) ∷ ps) (λ kind. λ size refs target name. (refl, refl))
@@ -251,7 +251,7 @@ field_is_word (AnObject x) h = object_field.is_word x (and_true (is_number x.0) 
 field_is_word (ANumeral kind n) h = (numeral_field kind).is_word n (and_true (is_in kind n) true h).0
 field_is_word (AName name) h = (name_field Two).is_word name (and_true (is_name name) true h).0
 field_is_word (SomeBytes bytes) h = octets_field.is_word bytes h
-field_is_word TheContext h = (numeral_field Number).is_word 0 refl
+field_is_word (TheContext c) h = object_field.is_word c (and_true (is_number c.0) true h).0
 
 all_words : (ps : List Part) → all_fit ps ≡ true → list_all word_ok ps ≡ true → list_all is_unspaced (words_of ps) ≡ true
 all_words [] h w = refl

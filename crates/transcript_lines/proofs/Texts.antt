@@ -189,7 +189,7 @@ field_plain (AnObject x) h = number_plain x.0 (and_true (is_number x.0) true h).
 field_plain (ANumeral kind n) h = number_plain n (in_number kind n (and_true (is_in kind n) true h).0)
 field_plain (AName name) h = name_plain name (and_true (list_all is_graphic name) _ (and_true (list_all is_graphic name && leb 1 (length name)) _ (and_true (is_name name) true h).0).0).0
 field_plain (SomeBytes bytes) h = hex_plain bytes
-field_plain TheContext h = number_plain 0 refl
+field_plain (TheContext c) h = number_plain c.0 (and_true (is_number c.0) true h).0
 
 part_plain : (p : Part) → is_sound_part p ≡ true → word_ok p ≡ true → has_no_lf (part_text p) ≡ true
 part_plain (AWord word) h w = (and_true (is_unspaced word) (has_no_lf word) w).1

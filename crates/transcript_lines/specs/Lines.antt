@@ -118,7 +118,8 @@ a_row_kind next =
     (IfWord (codes "fd") (next row_kinds.Fd)
     (IfWord (codes "request") (next row_kinds.Request)
     (IfWord (codes "queue") (next row_kinds.Queue)
-    (IfWord (codes "entry") (next row_kinds.Entry) Fails))))))))
+    (IfWord (codes "entry") (next row_kinds.Entry)
+    (IfWord (codes "context") (next row_kinds.Context) Fails)))))))))
 
 -- what follows the kind of a row
 abbrev pub row_end : ℕ → ℕ → RowKind → Form

@@ -36,6 +36,7 @@ pub(crate) fn kind_of(word: &[u8]) -> Option<RowKind>
         b"request" => Some(RowKind::Request),
         b"queue" => Some(RowKind::Queue),
         b"entry" => Some(RowKind::Entry),
+        b"context" => Some(RowKind::Context),
         _ => None,
     }
 }

@@ -24,6 +24,7 @@ fn kind_in_report(kind: Kind) -> RowKind
         Kind::Request => RowKind::Request,
         Kind::Queue => RowKind::Queue,
         Kind::Entry => RowKind::Entry,
+        Kind::Context => RowKind::Context,
     }
 }
 

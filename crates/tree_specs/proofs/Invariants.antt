@@ -4,6 +4,7 @@ pub mod Turning
 pub mod Notes
 pub mod Queues
 pub mod FreeQueues
+pub mod KeptQueueCalls
 pub mod KeptQueues
 pub mod FreeNotes
 pub mod KeptNotes

@@ -1,4 +1,5 @@
 -- The machine tells what the text of the rules tells, and what that text answers.
+pub mod MeansFrees
 pub mod Means
 pub mod Rest
 pub mod LettingGo

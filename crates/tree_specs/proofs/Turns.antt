@@ -5,5 +5,6 @@ pub mod Falls
 pub mod FallingFrees
 pub mod FallingTurns
 pub mod FallingRequests
+pub mod LoadFrees
 pub mod Load
 pub mod Bound

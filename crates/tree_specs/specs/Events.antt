@@ -1,5 +1,6 @@
 -- Events: objects whose turn comes.
 pub mod Coming
+pub mod Contexts
 pub mod Descriptors
 pub mod Handlers
 pub mod Pending

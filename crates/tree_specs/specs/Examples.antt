@@ -1,4 +1,5 @@
 -- Worked examples, as tables that a person can review.
+pub mod Contexts
 pub mod Exchanges
 pub mod Descriptors
 pub mod Events

@@ -95,39 +95,47 @@ pub enum Call {
     Report {
         owner: Owner,
     },
+    /// `context P`: a context below an owner, as `tevent_context_init` makes it. The reply is its number.
+    Context {
+        owner: Owner,
+    },
     /// `immediate P`: an event below an owner that can be made to come as soon as it can, as `tevent_create_immediate`
     /// makes it. The reply is its number.
     Immediate {
         owner: Owner,
     },
-    /// `schedule X R U`: the immediate comes as soon as it can, with the routine R and the user number U, as
-    /// `tevent_schedule_immediate` says; it waits behind all that wait already. With 0 for R it doesn't come any more.
+    /// `schedule X R U C`: the immediate comes as soon as it can in the context C, with the routine R and the user number
+    /// U, as `tevent_schedule_immediate` says; it waits behind all that wait already. With 0 for R it doesn't come any
+    /// more.
     Schedule {
         x: Obj,
         routine: u32,
         user: u64,
+        context: Obj,
     },
     /// `unschedule X`: the immediate doesn't come any more.
     Unschedule {
         x: Obj,
     },
-    /// `timer P TIME R U`: an event below an owner that comes at a time in microseconds, from 0 to 2^62, with the
-    /// routine R and the user number U, as `tevent_add_timer` makes it. The reply is its number.
+    /// `timer P TIME R U C`: an event below an owner that comes in a context at a time in microseconds, from 0 to 2^62,
+    /// with the routine R and the user number U, as `tevent_add_timer` makes it. The reply is its number.
     Timer {
         owner: Owner,
         time: u64,
         routine: u32,
         user: u64,
+        context: Obj,
     },
-    /// `fd P FD F R U`: an event below an owner that comes when the descriptor FD is ready for what the flags F say,
-    /// with the routine R and the user number U, as `tevent_add_fd` makes it: 1 is for reading, 2 for writing, 3 for
-    /// both, and 0 for neither. The reply is its number.
+    /// `fd P FD F R U C`: an event below an owner that comes in a context when the descriptor FD is ready for what the
+    /// flags F say, with the routine R and the user number U, as `tevent_add_fd` makes it: 1 is for reading, 2 for
+    /// writing, 3 for both, and 0 for neither. The reply is its number.
     Fd {
         owner: Owner,
         fd: u32,
         flags: u32,
         routine: u32,
         user: u64,
+        context: Obj,
     },
     /// `flags X F`: the descriptor's event X waits for these flags from now on, as `tevent_fd_set_flags` says.
     Flags {
@@ -177,10 +185,11 @@ pub enum Call {
         routine: u32,
         user: u64,
     },
-    /// `defer X`: when the request is over it comes soon, and its callback runs only then, as
+    /// `defer X C`: when the request is over it comes soon in the context C, and its callback runs only then, as
     /// `tevent_req_defer_callback` says.
     Defer {
         x: Obj,
+        context: Obj,
     },
     /// `cleanup X R`: each time that the request goes to a later state the routine R runs, as
     /// `tevent_req_set_cleanup_fn` says. With 0 for R none does.
@@ -198,9 +207,10 @@ pub enum Call {
     Cancel {
         x: Obj,
     },
-    /// `post X`: a request that is over comes soon, as `tevent_req_post` says.
+    /// `post X C`: a request that is over comes soon in the context C, as `tevent_req_post` says.
     Post {
         x: Obj,
+        context: Obj,
     },
     /// `done X`: the work of the request is done, as `tevent_req_done` says.
     Done {
@@ -225,11 +235,12 @@ pub enum Call {
     Progress {
         x: Obj,
     },
-    /// `endtime X TIME`: the request times out at a time in microseconds, from 0 to 2^62, where it still is in progress
-    /// then, as `tevent_req_set_endtime` says.
+    /// `endtime X TIME C`: the request times out at a time in microseconds, from 0 to 2^62, in the context C, where it
+    /// still is in progress then, as `tevent_req_set_endtime` says.
     Endtime {
         x: Obj,
         time: u64,
+        context: Obj,
     },
     /// `received X`: what came of the request was taken, as `tevent_req_received` says: the object that it was made
     /// with is freed, and no state comes after this.
@@ -242,14 +253,15 @@ pub enum Call {
         owner: Owner,
         name: Name,
     },
-    /// `enqueue Q X R U`: the request X waits in the queue Q for its turn, behind all others, and then the routine R
-    /// runs for it with the user number U, as `tevent_queue_add_entry` says. The reply is the number of its entry, an
-    /// object below the request that leaves the queue when it is freed.
+    /// `enqueue Q X R U C`: the request X waits in the queue Q for its turn in the context C, behind all others, and then
+    /// the routine R runs for it with the user number U, as `tevent_queue_add_entry` says. The reply is the number of its
+    /// entry, an object below the request that leaves the queue when it is freed.
     Enqueue {
         queue: Obj,
         x: Obj,
         routine: u32,
         user: u64,
+        context: Obj,
     },
     /// `start Q`: the queue runs from now on, as `tevent_queue_start` says.
     Start {
@@ -267,12 +279,16 @@ pub enum Call {
     Running {
         queue: Obj,
     },
-    /// `pending`: how many events wait: immediates and requests that come soon, timers and end times of requests, and
-    /// events on descriptors.
-    Pending,
+    /// `pending C`: how many events wait in a context: immediates and requests that come soon, timers and end times of
+    /// requests, and events on descriptors.
+    Pending {
+        context: Obj,
+    },
     /// `now`: the time in microseconds, as `tevent_timeval_current` tells. The host asks the clock.
     Now,
-    /// `turn`: one turn of the event loop, as `tevent_loop_once` takes it: the first event that has come runs. The
+    /// `turn C`: one turn of a context, as `tevent_loop_once` takes it: the first event that has come in it runs. The
     /// reply is 1, or 0 where none has come.
-    Turn,
+    Turn {
+        context: Obj,
+    },
 }

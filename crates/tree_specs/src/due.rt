@@ -9,4 +9,6 @@ pub struct Due {
     /// At equal times the smaller number comes first. No number is taken twice.
     pub number: u64,
     pub object: Obj,
+    /// The context in which it comes.
+    pub context: Obj,
 }

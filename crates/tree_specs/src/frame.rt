@@ -203,6 +203,11 @@ pub enum TurnFrame {
     Serving {
         x: Obj,
     },
+    /// It waits for the freeing of its context, which was to be freed during the turn. This will be the reply.
+    Parting {
+        x: Obj,
+        value: u64,
+    },
     /// It is over, and this is the reply.
     Closing {
         value: u64,

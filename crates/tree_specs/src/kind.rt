@@ -23,6 +23,8 @@ pub enum Kind {
     Queue,
     /// The place of a request in a queue.
     Entry,
+    /// A context (`struct tevent_context`): events, requests and queues come in a turn of theirs.
+    Context,
 }
 
 impl Kind {

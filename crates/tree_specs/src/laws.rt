@@ -1,7 +1,7 @@
 //! Laws of the definitions, each the clause of a function that does nothing.
 #![tactic(auto)]
 
-ghost use Rattle.std.specs.Prelude.{◌≡◌, ◌≢◌, ◌≤◌, ◌<◌, ℕ, true, false, None, List, ◌∷◌, ◌++◌, length, slice_get};
+ghost use Rattle.std.specs.Prelude.{◌≡◌, ◌≢◌, ◌≤◌, ◌<◌, ℕ, true, false, None, List, ◌∷◌, ◌++◌, length, slice_get, []};
 ghost use Rattle.step_machine.specs.Machine.{run, EndsBy, is_stray, items as told_by};
 ghost use Rattle.step_machine.specs.Machine.Outcome.{Ended, Short};
 ghost use Rattle.step_machine.specs.Noted.{noted, with_note};
@@ -13,6 +13,12 @@ ghost use Rattle.tree_specs.specs.declared.reply.Reply.{Reply as ReplyData};
 ghost use Rattle.tree_specs.specs.declared.reply.Reply.TheVariants.{Number};
 ghost use Rattle.tree_specs.specs.declared.bounds.TheConstants.{TIME_LIMIT};
 ghost use Rattle.tree_specs.specs.declared.object.Obj.{Obj as ObjData};
+ghost use Rattle.tree_specs.specs.declared.coming.Coming.{Coming as ComingData};
+ghost use Rattle.tree_specs.specs.declared.due.Due.{Due as DueData};
+ghost use Rattle.tree_specs.specs.declared.watch.Watch.{Watch as WatchData};
+ghost use Rattle.tree_specs.specs.Words.Objects.{same};
+ghost use Rattle.tree_specs.specs.Events.Pending.{scheduled, unscheduled, soon_in, soon_without, disarmed, times_in, times_without};
+ghost use Rattle.tree_specs.specs.Events.Rotation.{unwatched, ring_in, ring_without};
 ghost use Rattle.tree_specs.specs.declared.object.Owner.{Owner as OwnerData};
 ghost use Rattle.tree_specs.specs.declared.row.Row.{Row as RowData};
 ghost use Rattle.tree_specs.specs.declared.free_step.FreeReply.{FreeReply as FreeReplyData};
@@ -30,7 +36,7 @@ ghost use Rattle.tree_specs.specs.Invariants.Consistent.{IsConsistent};
 ghost use Rattle.tree_specs.specs.Machine.View.{View, begin, rest_of, strays_of};
 ghost use Rattle.tree_specs.specs.Promises.Orderly.{Orderly};
 ghost use Rattle.tree_specs.specs.Calls.Refusals.{is_open, is_running};
-ghost use Rattle.tree_specs.specs.Promises.Idle.{NothingCame};
+ghost use Rattle.tree_specs.specs.Promises.Idle.{NothingCame, Remains};
 ghost use Rattle.tree_specs.specs.Promises.Grounded.{Grounded, DropsOutside, IsItem};
 ghost use Rattle.tree_specs.specs.Promises.Acceptances.{AcceptsAfterReturns};
 
@@ -102,17 +108,18 @@ pub fn every_story_is_grounded()
 /// What waits for its turn is at every moment a live event with a handler: an immediate where it comes soon, a timer
 /// where it has a time, a descriptor's event where it watches; or a live request, where it comes soon or has an end
 /// time. What is being freed, or will be once its handler is over, waits no more, and only events have handlers. Each
-/// descriptor that is watched is open, and one event watches it.
+/// descriptor that is watched is open, and one event watches it. Each context in which something waits is the first
+/// one, or one that neither is being freed nor will be after its turn.
 pub fn what_waits_is_a_live_event()
     ensures in_stories { (first : ℕ) (is : List InputData) → 1 ≤ first → EachFits AwaitsBefore (story first is) }
     ensures after_each_step { (v : View) → IsConsistent v → Awaits v.pool → Awaits (pool_after (step v.innermost v.pool)) }
 {}
 
-/// A turn replies 0 exactly where nothing came: nothing was to come soon, no time had come at the last look, and no
-/// event waited for what its descriptor was ready for.
+/// A turn of a context that isn't to be freed replies 0 exactly where nothing came in it: nothing was to come soon, no
+/// time had come at the last look, and no event waited for what its descriptor was ready for.
 pub fn a_turn_replies_0_where_nothing_came()
-    ensures cause { (n : ℕ) (p q : Pool) (is left : List InputData) (told : List Scene) → taking n p is ≡ Ended 0 q told left → (used : List InputData) × (used ++ left ≡ is) × NothingCame p used }
-    ensures idle { (p : Pool) (used left : List InputData) (n : ℕ) → NothingCame p used → 8 ≤ n → (q : Pool) × (told : List Scene) × (taking n p (used ++ left) ≡ Ended 0 q told left) }
+    ensures cause { (n : ℕ) (p q : Pool) (is left : List InputData) (told : List Scene) → Remains p → taking n p is ≡ Ended 0 q told left → (used : List InputData) × (used ++ left ≡ is) × NothingCame p used }
+    ensures idle { (p : Pool) (used left : List InputData) (n : ℕ) → Remains p → NothingCame p used → 8 ≤ n → (q : Pool) × (told : List Scene) × (taking n p (used ++ left) ≡ Ended 0 q told left) }
 {}
 
 /// What a clock tells is from 0 to 2^62 microseconds, and an accepted descriptor wasn't open: no other answer is taken.
@@ -120,4 +127,18 @@ pub fn an_answer_is_in_its_range()
     ensures time { (n : ℕ) (p q : Pool) (is left : List InputData) (r : ReplyData) (told : List Scene) → reaching n Clock p is ≡ Ended r q told left → (now : ℕ) × (r ≡ Number now) × (now ≤ TIME_LIMIT) }
     ensures accepted { (n fd new : ℕ) (p q : Pool) (is left : List InputData) (told : List Scene) → reaching n (Accept fd) p is ≡ Ended (Number new) q told left →
         (0 < new) × (is_open p new ≡ false) × (is_open q new ≡ true) }
+{}
+
+/// What a change does to the lists of all contexts it does to the lists of each: those of its own context change as
+/// those of a loop that has no other one, and those of any other context lose the object alone. A context that goes
+/// leaves nothing.
+pub fn each_context_has_its_lists()
+    ensures soon { (xs : List ComingData) (x c : ObjData) → soon_in (scheduled xs x c) c ≡ scheduled (soon_in xs c) x c }
+    ensures elsewhere { (xs : List ComingData) (x c d : ObjData) → same d c ≡ false → soon_in (scheduled xs x d) c ≡ unscheduled (soon_in xs c) x }
+    ensures soon_gone { (xs : List ComingData) (c : ObjData) → soon_in (soon_without xs c) c ≡ [] }
+    ensures soon_stays { (xs : List ComingData) (c d : ObjData) → same c d ≡ false → soon_in (soon_without xs d) c ≡ soon_in xs c }
+    ensures times { (ds : List DueData) (x c : ObjData) → times_in (disarmed ds x) c ≡ disarmed (times_in ds c) x }
+    ensures times_gone { (ds : List DueData) (c : ObjData) → times_in (times_without ds c) c ≡ [] }
+    ensures ring { (ws : List WatchData) (x c : ObjData) → ring_in (unwatched ws x) c ≡ unwatched (ring_in ws c) x }
+    ensures ring_gone { (ws : List WatchData) (c : ObjData) → ring_in (ring_without ws c) c ≡ [] }
 {}

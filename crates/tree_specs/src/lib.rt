@@ -6,6 +6,7 @@
 mod bounds;
 mod call;
 mod checked;
+mod coming;
 mod due;
 mod event;
 pub mod examples;
@@ -45,6 +46,7 @@ pub use bounds::{
 };
 pub use call::Call;
 pub use checked::{Checked, Rule};
+pub use coming::Coming;
 pub use due::Due;
 pub use event::Event;
 pub use frame::{

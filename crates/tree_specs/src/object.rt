@@ -1,12 +1,21 @@
 //! Objects and owners, by their numbers.
 ghost use Rattle.std.specs.Prelude.{◌≡◌};
-ghost use Rattle.tree_specs.specs.Words.Objects.{owner_number};
+ghost use Rattle.tree_specs.specs.Words.Objects.{owner_number, first_context};
 
 use std::fmt::{Display, Error, Formatter, Write};
 
 /// An object of the tree, named by its serial number, from 1 upwards. No number is used twice.
 #[derive(Clone, Copy, Debug, PartialEq, Eq)]
 pub struct Obj(pub u64);
+
+impl Obj {
+    /// The context that is always there, and is no object. In texts it is the number 0.
+    pub fn first_context() -> Obj
+        ensures { result ≡ first_context }
+    {
+        Obj(0)
+    }
+}
 
 impl Display for Obj {
     fn fmt<W: Write>(&self, f: &mut Formatter<W>) -> Result<(), Error> {

@@ -6,6 +6,7 @@ ghost use Rattle.std.specs.Prelude.{◌≡◌, ℕ, suc, None, Some, List, [], �
 ghost use Rattle.step_machine.specs.Machine.{followed};
 ghost use Rattle.step_machine.specs.Machine.Outcome.{Ended};
 ghost use Rattle.tree_specs.specs.declared.call.Call.{Call as CallData};
+ghost use Rattle.tree_specs.specs.declared.call.Call.TheVariants.{Turn};
 ghost use Rattle.tree_specs.specs.declared.object.Obj.{Obj as ObjData};
 ghost use Rattle.tree_specs.specs.declared.object.Owner.{Owner as OwnerData};
 ghost use Rattle.tree_specs.specs.declared.object.Owner.TheVariants.{Of};
@@ -16,6 +17,7 @@ ghost use Rattle.tree_specs.specs.declared.reply.Refusal.{Refusal as RefusalData
 ghost use Rattle.tree_specs.specs.declared.reply.Refusal.TheVariants.{Nested};
 ghost use Rattle.tree_specs.specs.declared.reply.Reply.TheVariants.{No};
 ghost use Rattle.tree_specs.specs.Calls.Refusals.{Check, refusals};
+ghost use Rattle.tree_specs.specs.Calls.Plans.{planned_at, replies};
 ghost use Rattle.tree_specs.specs.Tree.Pool.{Pool, first_kid, noted_owner, target_at};
 ghost use Rattle.tree_specs.specs.Promises.Refused.{called, SayOnlyWhatRan, RefuseOnlyWhatRan, RefusedChangeNothing};
 ghost use Rattle.tree_specs.specs.Rules.Sequence.{Work};
@@ -51,7 +53,9 @@ pub fn a_refused_call_changes_nothing()
     ensures moved { RefusedChangeNothing bad.steals_though_refused → ⊥ }
 {}
 
-/// A turn within a routine is refused, whatever this routine runs for, and does nothing.
+/// A turn within a routine is refused, whatever this routine runs for, and does nothing. This is so whichever context it
+/// names.
 pub fn a_nested_turn_is_refused()
-    ensures { (m : MomentData) (turn : Work ℕ) (p : Pool) (is : List InputData) → turned (Routine m) turn p is ≡ Ended (No Nested) p [] is }
+    ensures plan { (m : MomentData) (c : ObjData) (p : Pool) → planned_at (Routine m) p (Turn c) ≡ replies (No Nested) }
+    ensures turn { (m : MomentData) (turn : Work ℕ) (c : ObjData) (p : Pool) (is : List InputData) → turned (Routine m) turn c p is ≡ Ended (No Nested) p [] is }
 {}

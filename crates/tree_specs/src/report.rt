@@ -20,6 +20,7 @@ pub enum RowKind {
     Request,
     Queue,
     Entry,
+    Context,
 }
 
 /// What a report says of one object, as `talloc_report` does.

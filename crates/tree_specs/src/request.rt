@@ -46,8 +46,9 @@ pub struct Note {
     pub error: u64,
     /// What runs when it is over (`tevent_req_set_callback`).
     pub callback: Option<Handler>,
-    /// When it is over it comes soon, and its callback runs only then (`tevent_req_defer_callback`).
-    pub deferred: bool,
+    /// The context in which it comes soon when it is over, where its callback runs only then
+    /// (`tevent_req_defer_callback`).
+    pub deferred: Option<Obj>,
     /// The routine that runs each time that it goes to a later state (`tevent_req_set_cleanup_fn`); 0 is none.
     pub cleanup: u32,
     /// The number of the last state that its cleanup was run for, or was set in.

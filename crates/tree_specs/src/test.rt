@@ -20,6 +20,8 @@ pub enum Test {
     IsRequest(Obj),
     /// The object is a queue.
     IsQueue(Obj),
+    /// It is the context that is no object, or a context that isn't being freed, and won't be after its turn.
+    IsContext(Obj),
     /// The object may go to another owner: it is no entry of a queue.
     IsMovable(Obj),
     /// The object is one to which there may be references: a plain one, or a request.

@@ -13,4 +13,6 @@ pub struct Watch {
     pub flags: u32,
     /// Whether the descriptor is closed when the event goes (`tevent_fd_set_auto_close`).
     pub closes: bool,
+    /// The context in which it is watched; none where this is no more.
+    pub context: Option<Obj>,
 }

@@ -1,5 +1,5 @@
 -- Whether the last input of a host doesn't fit, step by step. Where no input comes there is none that doesn't.
-use Rattle.std.proofs.Common.{◌≡◌, ℕ, suc, zero, false, List, [], ◌∷◌, Option, Some, refl, sym, ◌∙◌, ap, subst}
+use Rattle.std.proofs.Common.{◌≡◌, ℕ, suc, zero, false, List, [], ◌∷◌, Some, refl, sym, ◌∙◌, ap, subst}
 use Rattle.step_machine.specs.Machine.{Move, Table, Outcome, State, silent, tell, tells, followed, after, run, pass, is_stray}
 use Rattle.step_machine.specs.Machine.{Move as Do}
 use Rattle.step_machine.specs.Machine.Move.{Done, Go, Emit, Wait, Call}

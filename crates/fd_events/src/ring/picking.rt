@@ -3,13 +3,13 @@
 ghost use Rattle.std.specs.Prelude.{◌≡◌, true};
 ghost use Rattle.std.specs.Option.{option_map};
 ghost use Rattle.tree_specs.specs.Words.Wants.{rises};
-ghost use Rattle.tree_specs.specs.Events.Rotation.{first_ready};
+ghost use Rattle.tree_specs.specs.Events.Rotation.{first_ready, ring_in};
 ghost use Rattle.fd_events.specs.Rotation.{ready_event};
 ghost use Rattle.fd_events.specs.Picking.{IsWalked, met};
 
 use crate::ready::{ReadyEvent, ready_for};
 use crate::ring::{Place, Ring};
-use tree_specs::{Want, Wants};
+use tree_specs::{Obj, Want, Wants};
 
 /// At least so many events are looked at before the descriptors, however few of these are ready.
 const A_FEW: usize = 8;
@@ -38,17 +38,17 @@ impl Walked {
 }
 
 impl Ring {
-    /// Looks at so many events at most, the oldest first, until one comes.
-    fn walk(&self, ready: &[Want], steps: usize) -> Walked
+    /// Looks at so many events of this context at most, the oldest first, until one comes.
+    fn walk(&self, c: Obj, ready: &[Want], steps: usize) -> Walked
         requires { rises ready.now ≡ true }
-        ensures { IsWalked self.now.watches ready.now steps result }
+        ensures { IsWalked (ring_in self.now.watches c) ready.now steps result }
     {
-        let mut at = self.oldest();
+        let mut at = self.oldest(c);
         for _ in 0..steps {
             let Some(x) = at else {
                 return Walked::Ended;
             };
-            let Some(Place { watch, next }) = self.place(x) else {
+            let Some(Place { watch, next }) = self.place(c, x) else {
                 return Walked::Ended;
             };
             if let Some(event) = ReadyEvent::of(watch, ready_for(ready, watch.fd)) {
@@ -63,19 +63,19 @@ impl Ring {
         }
     }
 
-    /// The first event that is watched for something that its descriptor is ready for, and what that is. None exactly
-    /// where there is none. It takes the time of the descriptors that are ready, times the logarithm of how many they
-    /// are, however many events aren't. (Once 2 ^ 64 - 1 events have been added or put behind all others, it takes the
-    /// time of the events that it passes.)
-    pub fn first_ready(&self, ready: &Wants) -> Option<ReadyEvent>
-        ensures { result ≡ option_map ready_event (first_ready self.now.watches ready.now) }
+    /// The first event of this context that is watched for something that its descriptor is ready for, and what that
+    /// is. None exactly where there is none. It takes the time of the descriptors that are ready, times the logarithm of
+    /// how many they are, however many events aren't. (Once 2 ^ 64 - 1 events have been added or put behind all others,
+    /// it takes the time of the events that it passes.)
+    pub fn first_ready(&self, c: Obj, ready: &Wants) -> Option<ReadyEvent>
+        ensures { result ≡ option_map ready_event (first_ready (ring_in self.now.watches c) ready.now) }
     {
         let ready = ready.as_slice();
         if !self.lane.has_stamps_left() {
-            return self.walk(ready, self.len()).met();
+            return self.walk(c, ready, self.len(c)).met();
         }
-        match self.walk(ready, ready.len().max(A_FEW)) {
-            Walked::Stopped => self.lane.first_coming(&self.holders, ready),
+        match self.walk(c, ready, ready.len().max(A_FEW)) {
+            Walked::Stopped => self.lane.first_coming(&self.holders, c, ready),
             walked => walked.met(),
         }
     }

@@ -38,6 +38,7 @@ fn watch(fd: u32) -> Input
         flags: 1,
         routine: 5,
         user: 9,
+        context: Obj::first_context(),
     })
 }
 
@@ -65,7 +66,9 @@ fn close(fd: u32) -> Input
 fn turn() -> Input
     ensures { IsTrue (is_sound result) }
 {
-    Input::Call(Call::Turn)
+    Input::Call(Call::Turn {
+        context: Obj::first_context(),
+    })
 }
 
 // These bytes were read.

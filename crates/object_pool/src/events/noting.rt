@@ -1,9 +1,9 @@
 //! What is kept of requests, beside what is to come of them.
-ghost use Rattle.std.specs.Prelude.{◌≡◌, ◌≤◌, ◌<◌, false, None, length};
+ghost use Rattle.std.specs.Prelude.{◌≡◌, ◌≤◌, ◌<◌, true, false, None, length};
 ghost use Rattle.tree_specs.specs.Events.Pending.{disarmed, is_numbered, unscheduled};
 ghost use Rattle.tree_specs.specs.Events.Requests.{note_of, called_back, deferring, cleaned_by, cancelled_by, failed_with, cleanup_in};
 ghost use Rattle.requests.specs.Register.{AreInOrder, notify_of, left_by, posted_by};
-ghost use Rattle.object_pool.specs.Upcoming.{HasPlace, KeepsPlaces, with_request, requested, posted, timed_under, finished};
+ghost use Rattle.object_pool.specs.Upcoming.{HasPlace, KeepsPlaces, KeepsContexts, holds_context, with_request, requested, posted, timed_under, finished};
 
 use crate::events::Events;
 use requests::Notify;
@@ -29,7 +29,8 @@ impl Events {
     pub fn create(&mut self, x: Obj, child: Obj)
         requires place { HasPlace self.old }
         requires new { note_of self.old.upcoming.requests x ≡ None }
-        ensures { self.new.upcoming ≡ requested x child self.old.upcoming }
+        ensures upcoming { self.new.upcoming ≡ requested x child self.old.upcoming }
+        ensures contexts { KeepsContexts self.old self.new }
     {
         self.requests.create(x, child);
     }
@@ -38,6 +39,7 @@ impl Events {
     pub fn set_callback(&mut self, x: Obj, routine: u32, user: u64)
         ensures upcoming { self.new.upcoming ≡ with_request (called_back routine user) x self.old.upcoming }
         ensures kept { KeepsPlaces self.old self.new }
+        ensures contexts { KeepsContexts self.old self.new }
     {
         self.requests.set_callback(x, routine, user);
     }
@@ -46,6 +48,7 @@ impl Events {
     pub fn set_cleanup(&mut self, x: Obj, routine: u32)
         ensures upcoming { self.new.upcoming ≡ with_request (cleaned_by routine) x self.old.upcoming }
         ensures kept { KeepsPlaces self.old self.new }
+        ensures contexts { KeepsContexts self.old self.new }
     {
         self.requests.set_cleanup(x, routine);
     }
@@ -54,22 +57,25 @@ impl Events {
     pub fn set_cancel(&mut self, x: Obj, routine: u32)
         ensures upcoming { self.new.upcoming ≡ with_request (cancelled_by routine) x self.old.upcoming }
         ensures kept { KeepsPlaces self.old self.new }
+        ensures contexts { KeepsContexts self.old self.new }
     {
         self.requests.set_cancel(x, routine);
     }
 
-    /// Defers the callback of a request: when it is over it comes soon, and is notified only then.
-    pub fn defer(&mut self, x: Obj)
-        ensures upcoming { self.new.upcoming ≡ with_request deferring x self.old.upcoming }
+    /// Defers the callback of a request: when it is over it comes soon in this context, and is notified only then.
+    pub fn defer(&mut self, x: Obj, context: Obj)
+        ensures upcoming { self.new.upcoming ≡ with_request (deferring context) x self.old.upcoming }
         ensures kept { KeepsPlaces self.old self.new }
+        ensures contexts { KeepsContexts self.old self.new }
     {
-        self.requests.defer(x);
+        self.requests.defer(x, context);
     }
 
     /// Sets the number of a request's failure.
     pub fn set_error(&mut self, x: Obj, error: u64)
         ensures upcoming { self.new.upcoming ≡ with_request (failed_with error) x self.old.upcoming }
         ensures kept { KeepsPlaces self.old self.new }
+        ensures contexts { KeepsContexts self.old self.new }
     {
         self.requests.set_error(x, error);
     }
@@ -78,6 +84,7 @@ impl Events {
     pub fn finish(&mut self, x: Obj, state: State)
         ensures upcoming { self.new.upcoming ≡ finished x state self.old.upcoming }
         ensures kept { KeepsPlaces self.old self.new }
+        ensures contexts { KeepsContexts self.old self.new }
     {
         self.order.times.disarm(x);
         self.requests.set_state(x, state);
@@ -89,6 +96,7 @@ impl Events {
         ensures result { result ≡ cleanup_in (note_of self.old.upcoming.requests x) }
         ensures upcoming { self.new.upcoming ≡ record self.old.upcoming { requests = left_by result self.old.upcoming.requests x } }
         ensures kept { KeepsPlaces self.old self.new }
+        ensures contexts { KeepsContexts self.old self.new }
     {
         self.requests.to_clean(x)
     }
@@ -98,24 +106,29 @@ impl Events {
         ensures result { result ≡ notify_of (note_of self.old.upcoming.requests x) }
         ensures upcoming { self.new.upcoming ≡ record self.old.upcoming { requests = posted_by result self.old.upcoming.requests x } }
         ensures kept { KeepsPlaces self.old self.new }
+        ensures contexts { KeepsContexts self.old self.new }
     {
         self.requests.to_notify(x)
     }
 
-    /// Puts an object behind all others that come soon. One that waits already goes to the end.
-    pub fn post(&mut self, x: Obj)
-        requires { HasPlace self.old }
-        ensures { self.new.upcoming ≡ posted x self.old.upcoming }
+    /// Puts an object behind all others that come soon in a context. One that waits already goes to the end.
+    pub fn post(&mut self, x: Obj, context: Obj)
+        requires place { HasPlace self.old }
+        requires context { holds_context self.old context ≡ true }
+        ensures upcoming { self.new.upcoming ≡ posted x context self.old.upcoming }
+        ensures contexts { KeepsContexts self.old self.new }
     {
-        self.order.soon.push(x);
+        self.order.soon.push(x, context);
     }
 
-    /// Sets the time at which an object comes, in microseconds. No other time has this number.
-    pub fn set_time(&mut self, x: Obj, time: u64, number: u64)
+    /// Sets the time at which an object comes in a context, in microseconds. No other time has this number.
+    pub fn set_time(&mut self, x: Obj, time: u64, number: u64, context: Obj)
         requires place { HasPlace self.old }
+        requires context { holds_context self.old context ≡ true }
         requires number { is_numbered (disarmed self.old.upcoming.times x) number ≡ false }
-        ensures { self.new.upcoming ≡ timed_under x time number self.old.upcoming }
+        ensures upcoming { self.new.upcoming ≡ timed_under x time number context self.old.upcoming }
+        ensures contexts { KeepsContexts self.old self.new }
     {
-        self.order.times.arm(x, time, number);
+        self.order.times.arm(x, time, number, context);
     }
 }

@@ -1,5 +1,5 @@
 //! Frees on the objects: their beginnings, and what comes next of the innermost one.
-ghost use Rattle.std.specs.Prelude.{◌≡◌, ◌∷◌, ◌≤◌, List, true, None, IfSome, OnSome, is_some, slice_get};
+ghost use Rattle.std.specs.Prelude.{◌≡◌, ◌∷◌, ◌≤◌, List, true, None, Some, IfSome, OnSome, is_some, slice_get};
 ghost use Rattle.tree_specs.specs.declared.free_step.FreeStep.TheVariants.{Done};
 ghost use Rattle.tree_specs.specs.declared.watch.Watch.{Watch as WatchData};
 ghost use Rattle.tree_specs.specs.declared.frame.FreeFrame.TheVariants.{Unlinking, Beginning, Looping};
@@ -7,16 +7,21 @@ ghost use Rattle.tree_specs.specs.declared.frame.Purpose.TheVariants.{Emptying};
 ghost use Rattle.tree_specs.specs.Tree.Pool.{target_at};
 ghost use Rattle.tree_specs.specs.Tree.Targets.{newest_ref};
 ghost use Rattle.tree_specs.specs.Machine.Table.{event_of};
-ghost use Rattle.destructors.specs.Frees.{next_of, is_event, returned, speaking, Begins, Steps};
+ghost use Rattle.destructors.specs.Frees.{frees_of, next_of, is_event, let_go_by, returned, speaking, Begins, Steps};
 ghost use Rattle.destructors.specs.Works.{IsAtWork, IsAwaiting, GoesOn};
 ghost use Rattle.destructors.specs.Moves.{IsLiveRow};
-ghost use Rattle.destructors.specs.Engine.{IsAsked, ended_with};
+ghost use Rattle.destructors.specs.Engine.{AreKept, IsAsked, ended_with};
+ghost use Rattle.references.specs.Rows.{AreRefsOf};
 ghost use Rattle.object_pool.specs.Objects.{frees_in, LeavesRest, MayBeginFree};
-ghost use Rattle.object_pool.specs.Upcoming.{closed_of, MayForget};
+ghost use Rattle.object_pool.specs.Upcoming.{closed_of, upcoming_in, without_left, HoldsUsable, KeepsPlaces, KeepsContexts, MayForget};
 ghost use Rattle.object_pool.specs.Requests.{count_unreceived};
 
 use crate::counting::count_step;
+use crate::events::Events;
 use crate::pool::ObjectPool;
+use destructors::FreeEngine;
+use references::Refs;
+use tree_links::Tree;
 use tree_specs::{Event, FreeReply, FreeStep, Obj, Owner};
 
 /// What comes next of a free: the step, and the event that is told of it, if there is one.
@@ -29,7 +34,7 @@ pub struct Progress {
 /// The event that is told of a step of a free which has closed this descriptor, or none.
 #[tactic(auto, using(crate::proofs::Announcing::closed_told))]
 fn event(step: &FreeStep, closed: Option<u32>) -> Option<Event>
-    ensures { (ring : List WatchData) → closed ≡ closed_of ring step.now → result ≡ event_of ring step.now }
+    ensures { (ring : List WatchData) → closed ≡ closed_of ring (let_go_by (Some step.now)) → result ≡ event_of ring step.now }
 {
     match *step {
         FreeStep::Dropped { reference, target } => Some(Event::Unreferenced { reference, target }),
@@ -42,9 +47,26 @@ fn event(step: &FreeStep, closed: Option<u32>) -> Option<Event>
     }
 }
 
+/// Lets go of what the next step of the innermost free lets go of: it waits no more. Gives the descriptor that was closed,
+/// where one was. This comes before the step, since a queue comes soon by the contexts as they are before it.
+fn let_go_next(engine: &FreeEngine, tree: &Tree, refs: &Refs, events: &mut Events) -> Option<u32>
+    requires refs { AreRefsOf refs.now.pairs tree.now.rows }
+    requires kept { AreKept engine.now tree.now }
+    requires settled { speaking (frees_of engine.now tree.now) ≡ true }
+    requires usable { HoldsUsable tree.now.rows events.old }
+    ensures closed { result ≡ closed_of events.old.upcoming.ring (let_go_by (next_of (frees_of engine.now tree.now)).0) }
+    ensures upcoming { events.new.upcoming ≡ without_left tree.now.rows (let_go_by (next_of (frees_of engine.now tree.now)).0) events.old.upcoming }
+    ensures kept { KeepsPlaces events.old events.new }
+    ensures contexts { KeepsContexts events.old events.new }
+{
+    let x = engine.lets_go(tree, refs)?;
+    events.let_go(x, tree)
+}
+
 impl ObjectPool {
-    /// Begins the freeing of an object to which there is no reference. The memory for a call is taken before. Where a
-    /// free waits until a request was received or a queue has no entries, the memory for its works is enough.
+    /// Begins the freeing of an object to which there is no reference. The memory for a call is taken before. Where no free
+    /// is open, or the innermost one waits until a request was received or a queue has no entries, the memory for the
+    /// works is there.
     pub fn begin_free(&mut self, x: Obj)
         requires room { MayBeginFree self.old }
         requires awaiting { IsAwaiting (frees_in self.old) }
@@ -138,7 +160,7 @@ impl ObjectPool {
     pub fn step(&mut self) -> Progress
         requires at_work { IsAtWork (frees_in self.old) }
         requires settled { speaking (frees_in self.old) ≡ true }
-        requires emptied { MayForget (next_of (frees_in self.old)).0 self.old.pool.queues }
+        requires forgettable { MayForget (next_of (frees_in self.old)).0 (upcoming_in self.old.pool) }
         ensures steps { Steps (frees_in self.old) result.step (frees_in self.new) }
         ensures goes_on { GoesOn result.step (frees_in self.new) }
         ensures told { result.event ≡ event_of self.old.pool.ring result.step }
@@ -148,9 +170,10 @@ impl ObjectPool {
         // Read for the prover: the contract of `len` says that the objects are a forest.
         let _rows = self.tree.len();
         self.ready = false;
+        let closed = let_go_next(&self.engine, &self.tree, &self.refs, &mut self.events);
         let step = self.engine.step(&mut self.tree, &mut self.refs);
         count_step(&step, &self.tree, &mut self.sums);
-        let closed = self.events.follow(&step);
+        self.events.follow(&step);
         let event = event(&step, closed);
         Progress { step, event }
     }

@@ -53,7 +53,7 @@ impl ObjectPool {
             &mut self.tree,
             &mut self.sums,
         );
-        self.events.add_entry(queue, entry, x, trigger);
+        self.events.add_entry(queue, entry, x, trigger, &self.tree);
         entry
     }
 
@@ -65,7 +65,7 @@ impl ObjectPool {
     {
         self.ready = false;
         self.event = false;
-        self.events.start(queue);
+        self.events.start(queue, &self.tree);
     }
 
     /// Stops a queue (`tevent_queue_stop`).

@@ -1,6 +1,6 @@
 //! Requests: what is kept of them, and what they leave.
 ghost use Rattle.std.specs.Prelude.{◌≡◌, ◌+◌, ◌-◌, ◌^◌, ◌<◌, ◌≤◌, ◌∷◌, true, false, List, length, slice_get};
-ghost use Rattle.tree_specs.specs.Tree.Pool.{is_owner, add_request, renote, schedule as scheduled, finish, receive};
+ghost use Rattle.tree_specs.specs.Tree.Pool.{is_owner, is_usable, add_request, renote, schedule as scheduled, finish, receive};
 ghost use Rattle.tree_specs.specs.Events.Requests.{note_of, called_back, deferring, cleaned_by, cancelled_by, failed_with, cancel_in, cleanup_in, is_unreceived};
 ghost use Rattle.tree_specs.specs.Calls.Refusals.{row_limit, size_limit};
 ghost use Rattle.tree_specs.specs.Calls.Plans.Change.{Then, Arm, TakeNumber};
@@ -99,12 +99,12 @@ impl ObjectPool {
         self.events.set_cancel(x, routine);
     }
 
-    /// Defers the callback of a request: when it is over it comes soon, and is notified only then
+    /// Defers the callback of a request: when it is over it comes soon in this context, and is notified only then
     /// (`tevent_req_defer_callback`).
-    pub fn defer(&mut self, x: Obj)
-        ensures { self.new ≡ record self.old { pool = renote self.old.pool x deferring } }
+    pub fn defer(&mut self, x: Obj, context: Obj)
+        ensures { self.new ≡ record self.old { pool = renote self.old.pool x (deferring context) } }
     {
-        self.events.defer(x);
+        self.events.defer(x, context);
     }
 
     /// Sets the number of a request's failure.
@@ -114,29 +114,33 @@ impl ObjectPool {
         self.events.set_error(x, error);
     }
 
-    /// Posts a request: it comes soon, after all others (`tevent_req_post`). One that waits already goes to the end.
-    pub fn post(&mut self, x: Obj)
-        requires { self.old.ready ≡ true }
-        ensures { self.new ≡ record self.old { pool = scheduled self.old.pool x; ready = false } }
+    /// Posts a request: it comes soon in a context, after all others (`tevent_req_post`). One that waits already goes to
+    /// the end.
+    pub fn post(&mut self, x: Obj, context: Obj)
+        requires ready { self.old.ready ≡ true }
+        requires context { is_usable self.old.pool.rows context ≡ true }
+        ensures { self.new ≡ record self.old { pool = scheduled self.old.pool x context; ready = false } }
     {
         self.ready = false;
         self.event = false;
-        self.events.post(x);
+        self.events.post(x, context);
     }
 
-    /// Sets the time, in microseconds, at which a request times out if it isn't over before (`tevent_req_set_endtime`).
-    /// Among equal times it comes in the order of the calls, for which it gets a number that no object gets.
-    pub fn set_end_time(&mut self, x: Obj, time: u64)
+    /// Sets the time, in microseconds, at which a request times out in a context if it isn't over before
+    /// (`tevent_req_set_endtime`). Among equal times it comes in the order of the calls, for which it gets a number that no
+    /// object gets.
+    pub fn set_end_time(&mut self, x: Obj, time: u64, context: Obj)
         requires ready { self.old.ready ≡ true }
         requires numbered { self.old.pool.next < 2 ^ 64 - 1 }
-        ensures { self.new ≡ record self.old { pool = changed_by (Then (Arm x time self.old.pool.next) TakeNumber) self.old.pool; ready = false } }
+        requires context { is_usable self.old.pool.rows context ≡ true }
+        ensures { self.new ≡ record self.old { pool = changed_by (Then (Arm x time self.old.pool.next context) TakeNumber) self.old.pool; ready = false } }
     {
         self.ready = false;
         self.event = false;
         let Some(number) = self.tree.take_number() else {
             unreachable!()
         };
-        self.events.set_time(x, time, number);
+        self.events.set_time(x, time, number, context);
     }
 
     /// Sets the state of a request, and removes its end time.
@@ -165,6 +169,7 @@ impl ObjectPool {
         Some(Handler {
             routine: note.cancel,
             user: 0,
+            context: Obj::first_context(),
         })
     }
 
@@ -177,16 +182,19 @@ impl ObjectPool {
         self.events.to_clean(x)
     }
 
-    /// Gives what is done where a request is over. One whose callback is deferred comes soon from now on, and is
-    /// deferred no more.
+    /// Gives what is done where a request is over. One whose callback is deferred comes soon from now on in the context
+    /// that was kept for this, where this is usable, and is deferred no more.
     pub fn to_notify(&mut self, x: Obj) -> Notify
         requires { self.old.ready ≡ true }
         ensures result { result ≡ notify_of (note_of self.old.pool.requests x) }
         ensures pool { self.new ≡ notifying x result self.old }
     {
         let notify = self.events.to_notify(x);
-        if let Notify::Post = notify {
-            self.post(x);
+        if let Notify::Post(context) = notify {
+            if self.is_usable(context) {
+                self.post(x, context);
+            }
+            self.ready = false;
         }
         notify
     }

@@ -1,13 +1,13 @@
 //! Turns of the event loop: what comes next, and what a handler leaves.
 ghost use Rattle.std.specs.Prelude.{◌≡◌, true, false};
 ghost use Rattle.tree_specs.specs.declared.row.Mark.TheVariants.{Quiet};
-ghost use Rattle.tree_specs.specs.Tree.Pool.{is_row, is_dying, set_mark as marked};
+ghost use Rattle.tree_specs.specs.Tree.Pool.{is_row, is_dying, soon_here, times_here, ring_here, set_mark as marked};
 ghost use Rattle.tree_specs.specs.Promises.Grounded.{is_asked};
-ghost use Rattle.tree_specs.specs.Events.Coming.{rotated, begun, comes_as, is_once, handler_for, goes_after};
-ghost use Rattle.tree_specs.specs.Calls.Refusals.{is_doomed_mark};
+ghost use Rattle.tree_specs.specs.Events.Coming.{rotated, begun, comes_as, is_once, is_at_turn, handler_for, goes_after};
 ghost use Rattle.loop_core.specs.Picks.{begin_pick, clock_pick, ready_pick};
 ghost use Rattle.object_pool.specs.Upcoming.{pool_picked, started};
 
+use crate::doomed::is_doomed;
 use crate::pool::ObjectPool;
 use loop_core::Pick;
 use tree_specs::{Handler, Kind, Mark, Obj, Wants, What};
@@ -31,17 +31,10 @@ fn is_once(what: What) -> bool
     matches!(what, What::Timer)
 }
 
-/// Whether an object is being freed, or is to be once its handler is over.
-fn is_doomed(mark: Mark) -> bool
-    ensures { result ≡ is_doomed_mark mark }
-{
-    matches!(mark, Mark::Doomed | Mark::Dying(_))
-}
-
 impl ObjectPool {
-    /// Begins a turn, and picks what comes. What was picked waits no more.
+    /// Begins to look what comes in the context whose turn is under way, and picks it. What was picked waits no more.
     pub fn begin_turn(&mut self) -> Pick
-        ensures pick { result ≡ begin_pick self.old.pool.soon self.old.pool.times }
+        ensures pick { result ≡ begin_pick (soon_here self.old.pool) (times_here self.old.pool) }
         ensures pool { self.new ≡ record self.old { pool = pool_picked result self.old.pool } }
     {
         self.events.begin()
@@ -50,7 +43,7 @@ impl ObjectPool {
     /// Picks what comes once the clock has told the time, in microseconds, in a turn that has `waited` for descriptors
     /// before, or hasn't. What was picked waits no more.
     pub fn clock(&mut self, now: u64, waited: bool) -> Pick
-        ensures pick { result ≡ clock_pick waited now self.old.pool.times }
+        ensures pick { result ≡ clock_pick waited now (times_here self.old.pool) }
         ensures pool { self.new ≡ record self.old { pool = pool_picked result self.old.pool } }
     {
         self.events.clock(now, waited)
@@ -58,13 +51,23 @@ impl ObjectPool {
 
     /// Picks what comes when these descriptors are ready.
     pub fn ready(&self, list: &Wants) -> Pick
-        ensures { result ≡ ready_pick list.now self.now.pool.times self.now.pool.ring }
+        ensures { result ≡ ready_pick list.now (times_here self.now.pool) (ring_here self.now.pool) }
     {
         self.events.ready(list)
     }
 
+    /// Whether it is the turn of a context: it is the first one, or one whose turn is under way.
+    fn is_at_turn(&self, context: Obj) -> bool
+        ensures { result ≡ is_at_turn self.now.pool context }
+    {
+        context == Obj::first_context()
+            || self.tree.row(context).is_some_and(|row| {
+                matches!(row.kind, Kind::Context) && matches!(row.mark, Mark::Busy)
+            })
+    }
+
     /// The handler that is to run where this object comes as such an event. None exactly where it is no such event with
-    /// which nothing goes on, or has no handler.
+    /// which nothing goes on, or has no handler, or it isn't the turn of the handler's context.
     fn handler_for(&self, what: What, x: Obj) -> Option<Handler>
         ensures { result ≡ handler_for self.now.pool what x }
     {
@@ -72,7 +75,12 @@ impl ObjectPool {
         if !(comes_as(what, row.kind) && row.mark == Mark::Quiet) {
             return None;
         }
-        self.events.handler(x)
+        let handler = self.events.handler(x)?;
+        if self.is_at_turn(handler.context) {
+            Some(handler)
+        } else {
+            None
+        }
     }
 
     /// Puts an event that comes behind all others, where it is one on a descriptor.
@@ -96,8 +104,8 @@ impl ObjectPool {
     }
 
     /// Starts the handler of an object that comes as such an event: the object is busy from now on, and the handler is
-    /// given. None exactly where it is no such event with which nothing goes on, or has no handler; then nothing
-    /// changes.
+    /// given. None exactly where it is no such event with which nothing goes on, or has no handler, or it isn't the turn of
+    /// the handler's context; then nothing changes.
     pub fn start(&mut self, what: What, x: Obj) -> Option<Handler>
         ensures handler { result ≡ handler_for self.old.pool what x }
         ensures pool { self.new ≡ record self.old { pool = started result what x self.old.pool } }

@@ -1,7 +1,9 @@
 //! Events that wait for their turn.
 ghost use Rattle.std.specs.Prelude.{◌≡◌, ◌+◌, ◌-◌, ◌^◌, ◌<◌, true, false, length};
+ghost use Rattle.tree_specs.specs.Events.Pending.{soon_in, times_in};
+ghost use Rattle.tree_specs.specs.Events.Rotation.{ring_in};
 ghost use Rattle.tree_specs.specs.declared.kind.Kind.TheVariants.{Timer};
-ghost use Rattle.tree_specs.specs.Tree.Pool.{is_owner, set_handler as handled, schedule as scheduled, unschedule as unscheduled};
+ghost use Rattle.tree_specs.specs.Tree.Pool.{is_owner, is_usable, set_handler as handled, schedule as scheduled, unschedule as unscheduled};
 ghost use Rattle.tree_specs.specs.Calls.Refusals.{row_limit};
 ghost use Rattle.tree_specs.specs.Calls.Plans.{adds_timer, changed_by};
 
@@ -10,11 +12,12 @@ use crate::pool::ObjectPool;
 use tree_specs::{Handler, Kind, Name, Obj, Owner};
 
 impl ObjectPool {
-    /// Schedules an event: it comes soon, after all others, and this handler runs then. One that waits already goes to
-    /// the end.
+    /// Schedules an event: it comes soon in the handler's context, after all others, and the handler runs then. One that
+    /// waits already goes to the end.
     pub fn schedule(&mut self, x: Obj, handler: Handler)
-        requires { self.old.ready ≡ true }
-        ensures { self.new ≡ record self.old { pool = scheduled (handled self.old.pool x handler) x; ready = false } }
+        requires ready { self.old.ready ≡ true }
+        requires context { is_usable self.old.pool.rows handler.context ≡ true }
+        ensures { self.new ≡ record self.old { pool = scheduled (handled self.old.pool x handler) x handler.context; ready = false } }
     {
         self.ready = false;
         self.event = false;
@@ -28,13 +31,14 @@ impl ObjectPool {
         self.events.unschedule(x);
     }
 
-    /// Adds a timer as the newest child of an owner, and gives its number. It comes at a time, in microseconds, and
-    /// this handler runs then.
+    /// Adds a timer as the newest child of an owner, and gives its number. It comes at a time in the handler's context, in
+    /// microseconds, and the handler runs then.
     pub fn add_timer(&mut self, owner: Owner, time: u64, handler: Handler) -> Obj
         requires ready { self.old.ready ≡ true }
         requires few { length self.old.pool.rows < row_limit }
         requires numbered { self.old.pool.next < 2 ^ 64 - 1 }
         requires owner { is_owner self.old.pool.rows owner ≡ true }
+        requires context { is_usable self.old.pool.rows handler.context ≡ true }
         ensures serial { result ≡ record { 0 = self.old.pool.next } }
         ensures added { self.new ≡ record self.old { pool = changed_by (adds_timer self.old.pool owner time handler) self.old.pool; ready = false } }
     {
@@ -46,11 +50,11 @@ impl ObjectPool {
         timer
     }
 
-    /// How many events wait for their turn. Where the memory for a call is taken, they can be counted.
-    pub fn pending(&self) -> u64
+    /// How many events wait for their turn in a context. Where the memory for a call is taken, they can be counted.
+    pub fn pending(&self, context: Obj) -> u64
         requires { self.now.ready ≡ true }
-        ensures { result ≡ length self.now.pool.soon + length self.now.pool.times + length self.now.pool.ring }
+        ensures { result ≡ length (soon_in self.now.pool.soon context) + length (times_in self.now.pool.times context) + length (ring_in self.now.pool.ring context) }
     {
-        self.events.pending()
+        self.events.pending(context)
     }
 }

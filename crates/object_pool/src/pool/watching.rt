@@ -1,6 +1,6 @@
 //! Events on descriptors, and the descriptors that are open.
 ghost use Rattle.std.specs.Prelude.{◌≡◌, ◌-◌, ◌^◌, ◌<◌, true, false, [], OnOk, OnErr, length};
-ghost use Rattle.tree_specs.specs.Tree.Pool.{is_owner, rewatch, open_descriptor, close_descriptor};
+ghost use Rattle.tree_specs.specs.Tree.Pool.{is_owner, is_usable, ring_here, rewatch, open_descriptor, close_descriptor};
 ghost use Rattle.tree_specs.specs.Events.Rotation.{is_watched, flags_of, flagged, closing, wanted_of};
 ghost use Rattle.tree_specs.specs.Calls.Refusals.{is_open, row_limit};
 ghost use Rattle.tree_specs.specs.Calls.Plans.{adds_descriptor, changed_by};
@@ -11,13 +11,14 @@ use tree_specs::{Handler, Kind, Memory, Name, Obj, Owner, Want};
 
 impl ObjectPool {
     /// Adds an event on a descriptor as the newest child of an owner, and gives its number. It waits for these flags (1
-    /// for reading, 2 for writing), and this handler is to run when the descriptor is ready for one of them. It is
-    /// looked at after all others.
+    /// for reading, 2 for writing), and the handler is to run when the descriptor is ready for one of them. It is looked
+    /// at in the handler's context, after all others.
     pub fn add_descriptor(&mut self, owner: Owner, fd: u32, flags: u32, handler: Handler) -> Obj
         requires ready { self.old.ready ≡ true }
         requires few { length self.old.pool.rows < row_limit }
         requires numbered { self.old.pool.next < 2 ^ 64 - 1 }
         requires owner { is_owner self.old.pool.rows owner ≡ true }
+        requires context { is_usable self.old.pool.rows handler.context ≡ true }
         requires unwatched { is_watched self.old.pool.ring fd ≡ false }
         ensures serial { result ≡ record { 0 = self.old.pool.next } }
         ensures added { self.new ≡ record self.old { pool = changed_by (adds_descriptor self.old.pool owner fd flags handler) self.old.pool; ready = false } }
@@ -65,10 +66,10 @@ impl ObjectPool {
         self.events.is_watched(fd)
     }
 
-    /// Gives the descriptors that are watched for something, and what for, in the order in which they are looked at, in
-    /// place of what was in `out`. If memory runs out, nothing is given.
+    /// Gives the descriptors that are watched for something in the context whose turn is under way, and what for, in the
+    /// order in which they are looked at, in place of what was in `out`. If memory runs out, nothing is given.
     pub fn wants(&self, out: &mut Vec<Want>) -> Result<(), Memory>
-        ensures wants { OnOk result (out.new.items ≡ wanted_of self.now.pool.ring) }
+        ensures wants { OnOk result (out.new.items ≡ wanted_of (ring_here self.now.pool)) }
         ensures nothing { OnErr result (out.new.items ≡ []) }
     {
         self.events.wants(out)

@@ -13,6 +13,7 @@ use text_forms::{
 };
 use tree_specs::{Call, Name, Owner, ReportRow, RowKind, Version};
 
+mod contexts;
 mod descriptors;
 mod queues;
 mod requests;
@@ -200,14 +201,18 @@ count 0
 count 7
 report 0
 report 7
-pending 0
 now
-turn 0
 ";
 
 #[test]
 fn writes_what_was_read(rt: HostRuntime) -> Result<(), Fail> {
-    for lines in [CALLS, descriptors::CALLS, requests::CALLS, queues::CALLS] {
+    for lines in [
+        CALLS,
+        contexts::CALLS,
+        descriptors::CALLS,
+        requests::CALLS,
+        queues::CALLS,
+    ] {
         writes_again(&rt, rt.alloc(), lines)?;
     }
     Ok(())
@@ -257,40 +262,13 @@ rename 9\x20
 fn reads_no_call(rt: HostRuntime) {
     for lines in [
         NO_CALLS,
+        contexts::NO_CALLS,
         descriptors::NO_CALLS,
         requests::NO_CALLS,
         queues::NO_CALLS,
     ] {
         reads_none(&rt, rt.alloc(), lines, Version::Two);
     }
-}
-
-// Calls as version 1 has them, and what is written behind each in version 2.
-const WITHOUT_CONTEXT: &str = "\
-pending
-turn
-schedule 9 16 42
-timer 7 30 16 42
-fd 7 5 1 16 42
-defer 9
-post 9
-endtime 9 30
-enqueue 9 3 16 42
-";
-
-#[test]
-fn a_context_is_said_from_version_2_on(rt: HostRuntime) -> Result<(), Fail> {
-    for line in WITHOUT_CONTEXT.lines() {
-        let mut out = Vec::new(rt.alloc());
-        write_call(
-            &read_call(rt.alloc(), line.as_bytes(), Version::One)?,
-            &mut out,
-        )?;
-        assert!(rt; out.ends_with(b" 0"), "at {line:?}");
-        assert_eq!(rt; &out[..out.len() - 2], line.as_bytes());
-        reads_none(&rt, rt.alloc(), line, Version::Two);
-    }
-    Ok(())
 }
 
 #[test]
@@ -336,6 +314,7 @@ fn writes_each_kind_of_row(rt: HostRuntime) -> Result<(), Fail> {
         (RowKind::Request, b"row 1 3 request 16 5 7 a-b\n".as_slice()),
         (RowKind::Queue, b"row 1 3 queue 16 5 7 a-b\n".as_slice()),
         (RowKind::Entry, b"row 1 3 entry 16 5 7 a-b\n".as_slice()),
+        (RowKind::Context, b"row 1 3 context 16 5 7 a-b\n".as_slice()),
     ];
     for (kind, want) in cases {
         let mut out = Vec::new(rt.alloc());

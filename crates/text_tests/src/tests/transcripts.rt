@@ -45,6 +45,7 @@ fn lines_say_what_came_of_objects(rt: HostRuntime) -> Result<(), Fail> {
             Some(Said::Row)
         )
     );
+    assert!(rt; matches!(read_line(b"row 1 7 context 0 0 0 tevent"), Some(Said::Row)));
     assert!(rt;
         matches!(
             read_line(b"end write 5 0aff"),
@@ -65,6 +66,7 @@ fn other_lines_are_none(rt: HostRuntime) -> Result<(), Fail> {
             b"ask quiet",
             b"end write 5 0AFF",
             b"reply ok ",
+            b"row 1 7 contexts 0 0 0 tevent",
             b"",
         ],
     );

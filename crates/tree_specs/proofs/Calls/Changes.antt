@@ -1,38 +1,43 @@
 -- What a change asks for, and what it leaves so.
-use Rattle.std.proofs.Common.{ℕ, ◌≡◌, ◌≤◌, ◌+◌, ◌*◌, List, length, Some, None, true, false, refl, ap, arith, Option, subst, sym}
+use Rattle.std.proofs.Common.{inr, [], ◌∙◌, ◌++◌, ℕ, ◌≡◌, ◌≤◌, ◌+◌, ◌*◌, List, length, Some, None, true, false, refl, ap, arith, Option, subst, sym}
 use Rattle.std.specs.Prelude.{is_some, codes, not}
 use Rattle.tree_specs.specs.declared.object.Obj.{Obj}
 use Rattle.tree_specs.specs.declared.object.Owner.{Owner}
 use Rattle.tree_specs.specs.declared.object.Owner.TheVariants.{Of}
 use Rattle.tree_specs.specs.declared.kind.Kind.{Kind}
 use Rattle.tree_specs.specs.declared.kind.Kind.TheVariants as kind
-use Rattle.tree_specs.specs.Words.Objects.{same}
+use Rattle.tree_specs.specs.Words.Objects.{first_context, same}
 use Rattle.tree_specs.specs.declared.row.Row.{Row}
+use Rattle.tree_specs.specs.declared.row.Mark.{Mark}
+use Rattle.tree_specs.specs.declared.row.Mark.TheVariants as mark
 use Rattle.tree_specs.specs.declared.watch.Watch.{Watch}
 use Rattle.tree_specs.specs.declared.frame.Frame.{Frame}
-use Rattle.tree_specs.specs.Tree.Pool.{Pool, row_of, is_owner, new_row, add, note, add_request, add_queue, add_entry}
-use Rattle.tree_specs.specs.Tree.Targets.{target_of, is_reference}
+use Rattle.tree_specs.specs.Tree.Pool.{set_mark, is_context_row, is_usable_row, enter, marked_row, Pool, row_of, is_owner, new_row, add, note, add_request, add_queue, add_entry}
+use Rattle.tree_specs.specs.Tree.Targets.{target_of, is_reference, is_context, is_usable_mark}
 use Rattle.tree_specs.specs.Tree.Inside.{total}
-use Rattle.tree_specs.specs.Invariants.Measure.{weight}
-use Rattle.tree_specs.specs.Invariants.Consistent.{deposit, mark_deposit}
-use Rattle.tree_specs.specs.Calls.Refusals.{is_open, is_request, is_request_row, is_queue_row}
+use Rattle.tree_specs.specs.Invariants.Measure.{mark_weight, weight}
+use Rattle.tree_specs.specs.Invariants.Consistent.{mark_deposit, deposit}
+use Rattle.tree_specs.specs.Calls.Refusals.{is_doomed_mark, is_referable, is_open, is_request, is_request_row, is_queue_row}
 use Rattle.tree_specs.specs.declared.moment.What.TheVariants as what
 use Rattle.tree_specs.specs.Events.Handlers.{handler_of}
 use Rattle.tree_specs.specs.Events.Rotation.{is_watched}
 use Rattle.tree_specs.specs.Invariants.Awaiting.{MayCome, waits_as_row, is_event_row, IsHandled}
-use Rattle.tree_specs.specs.Calls.Plans.{Change, changed_by}
+use Rattle.tree_specs.specs.Calls.Plans.{Enter, Change, changed_by}
 use Rattle.tree_specs.specs.Calls.Plans.Change.{Nothing, Edit, Add, Place, Handle, Schedule, Arm, Watches, Rewatch, Close, TakeNumber, AddRequest, Renotes, AddQueue, AddEntry, LooksAt, Then}
-use Rattle.tree_specs.specs.Invariants.Sound.{IsReferable, MayBePlaced, Rests, Sound, claim}
-use Rattle.tree_specs.proofs.Tree.Numbered.{same-equal}
-use Rattle.tree_specs.proofs.Tree.Rows.{total-placed}
+use Rattle.tree_specs.specs.Calls.Passed.{IsUsable, First, Stays}
+use Rattle.tree_specs.specs.Invariants.Sound.{phase_of, phases, claims, IsLive, IsReferable, MayBePlaced, Rests, Sound, claim}
+use Rattle.tree_specs.proofs.Tree.Numbered.{by_test, same-equal}
+use Rattle.tree_specs.proofs.Tree.Rows.{row_of-changed-same, total-placed}
 use Rattle.tree_specs.proofs.Tree.Rooted.{KeepsPlace}
-use Rattle.tree_specs.proofs.Invariants.Changes.{goes_on, waiting-sound, numbered-sound, nobody, unmarked-sound, placed-sound, new-sound}
+use Rattle.tree_specs.proofs.Tree.Referring.{unreferred}
+use Rattle.tree_specs.proofs.Invariants.Changes.{changed-sound, live-owned, shape-of, marks-place, goes_on, waiting-sound, numbered-sound, nobody, unmarked-sound, placed-sound, new-sound}
 use Rattle.tree_specs.proofs.Turns.FallingFrees.{length-placed}
 use Rattle.tree_specs.proofs.Turns.Lowering.{total-kept, length-changed}
-use Rattle.tree_specs.proofs.Promises.Later.{Later, later-still, later-same, later-changed, later-placed, later-added, later-waiting, later-noted, states-renoted, states-noted}
+use Rattle.tree_specs.proofs.Promises.Later.{later-marked, Later, later-still, later-same, later-changed, later-placed, later-added, later-waiting, later-noted, states-renoted, states-noted}
 use Rattle.tree_specs.specs.declared.moment.What.{What}
 use Rattle.tree_specs.specs.declared.request.Note.{Note}
 use Rattle.tree_specs.specs.Events.Requests.{Notes as RequestNotes, renoted, new_note}
+use Rattle.tree_specs.specs.Machine.Profiles.{Phase}
 use Rattle.tree_specs.proofs.Events.NoteLaws.{note_weight-most, renoted-lighter, total-lighter, total-unowned}
 
 -- ---- what a change asks for
@@ -61,24 +66,26 @@ pub record MayWatch (p : Pool) (x : Obj) (fd : ℕ) : Type 0 where
   pub free : is_watched p.ring fd ≡ false
   pub open_one : is_open p fd ≡ true
 
--- how an event watches is changed, but not what it watches
+-- how an event watches is changed, but not what it watches, nor in which context
 pub record KeepsWatched (g : Watch → Watch) : Type 0 where
   pub object : (w : Watch) → (g w).object ≡ w.object
   pub fd : (w : Watch) → (g w).fd ≡ w.fd
+  pub context : (w : Watch) → (g w).context ≡ w.context
 
 abbrev pub MayDo : Pool → Change → Type 0
 MayDo p (Edit x g) = MayBeEdited p x g
 MayDo p (Add kind o size name) = MayBeAdded p kind o
 MayDo p (Place o x) = MayBePlaced p o x
 MayDo p (Handle x handler) = is_event_row (row_of p.rows x) ≡ true
-MayDo p (Schedule x) = MayWait p what.Immediate x
-MayDo p (Arm x time number) = MayWait p what.Timer x
+MayDo p (Schedule x c) = MayWait p what.Immediate x
+MayDo p (Arm x time number c) = MayWait p what.Timer x
 MayDo p (AddQueue o name) = is_owner p.rows o ≡ true
 -- the queue and the request are there, and the next number is nobody's
 MayDo p (AddEntry q x trigger) = (is_request_row (row_of p.rows x) ≡ true) × MayWait p what.Immediate q × (is_queue_row (row_of p.rows q) ≡ true) × (row_of p.rows (record { 0 = p.next }) ≡ None)
 MayDo p (LooksAt q) = MayWait p what.Immediate q
-MayDo p (Watches x fd flags) = MayWatch p x fd
+MayDo p (Watches x fd flags c) = MayWatch p x fd
 MayDo p (Rewatch x g) = KeepsWatched g
+MayDo p (Enter c) = IsUsable p c
 MayDo p (Close fd) = is_watched p.ring fd ≡ false
 -- the next number is nobody's
 MayDo p (AddRequest o size name) = (is_owner p.rows o ≡ true) × (row_of p.rows (record { 0 = p.next }) ≡ None)
@@ -146,11 +153,81 @@ new-row p k o name q rows next requests =
       later = later-still (later-added p k o 0 name) (later-waiting (add p k o 0 name) q rows next requests);
     }
 
+-- the row of a context that is usable, but for the first one
+pub record UsableRow (p : Pool) (c : Obj) : Type 0 where
+  pub row : Row
+  pub is : row_of p.rows c ≡ Some row
+  pub context : is_context row.kind ≡ true
+  pub mark : is_usable_mark row.mark ≡ true
+
+pub usable-row : (p : Pool) (c : Obj) → IsUsable p c → same c first_context ≡ false → UsableRow p c
+usable-row p c (First t) f = let bad : true ≡ false = sym t ∙ f in cc
+usable-row p c (Stays k m) f = each (row_of p.rows c) refl k m
+  where
+    each : (o : Option Row) → row_of p.rows c ≡ o → is_context_row o ≡ true → is_usable_row o ≡ true → UsableRow p c
+    each None e k m = cc
+    each (Some r) e k m = record { row = r; is = e; context = k; mark = m }
+
+-- it is live, and nothing goes on with it that is a work's own
+pub usable-mark : (k : Kind) (m : Mark) → is_context k ≡ true → is_usable_mark m ≡ true → (mark_weight m ≡ 2) × (mark_deposit k m ≡ 0) × (phase_of k m ≡ []) × IsLive m × (is_doomed_mark m ≡ false)
+usable-mark k mark.Quiet e u = (refl, refl, refl, tt, refl)
+usable-mark k mark.Busy e u = rw e (refl, refl, refl, tt, refl)
+usable-mark k _ e u = cc
+
+-- a turn of a context begins
+entered : (p : Pool) (c : Obj) → IsUsable p c → Follows p (enter p c) 0 0
+entered p c may = by_test (same c first_context)
+    (λ t. rw t (waits p p refl refl refl))
+    (λ t.
+    let u = usable-row p c may t in
+    let m = usable-mark u.row.kind u.row.mark u.context u.mark in
+    let k = u.context in
+    let w = total-kept (weight p.requests) (marked_row mark.Busy) p.rows c u.row u.is (rw m.0 refl) in
+    let b = total-kept deposit (marked_row mark.Busy) p.rows c u.row u.is (rw (m.1, k) refl) in
+    rw t (record {
+      weight = omega (arith, w);
+      number = omega (arith, length-changed (marked_row mark.Busy) p.rows c);
+      deposit = omega (arith, b);
+      later = later-still (later-waiting p (record p { turning = Some c }) refl refl refl) (later-marked (record p { turning = Some c }) c u.row mark.Busy u.is m.3);
+    }))
+
+entered-sound : (f f' : Frame) (fs : List Frame) (p : Pool) (c : Obj) → Sound f fs p → ((q : Pool) → Rests f fs q) → IsUsable p c → ((y : Obj) → claim y f' ≡ claim y f) → Rests f' fs (enter p c) → Sound f' fs (enter p c)
+entered-sound f f' fs p c s calm may same_claim h = by_test (same c first_context)
+    (λ t. rw t (goes_on f f' fs p same_claim (rw t at h) s))
+    (λ t.
+    let u = usable-row p c may t in
+    let m = usable-mark u.row.kind u.row.mark u.context u.mark in
+    let k = u.context in
+    let none : claim c f ++ claims c fs ≡ [] = s.open_frees c ∙ ap phases u.is ∙ m.2 in
+    let b : Sound f fs (set_mark p c mark.Busy) = changed-sound (marked_row mark.Busy) f f fs fs p c u.row s (marks-place mark.Busy) u.is
+    (live-owned u.row.mark u.row.owner c m.3 (shape-of p c u.row s.valid u.is)) (context-object u.row.kind u.context)
+    (inr (unreferred p.rows c s.forest.distinct (λ r. let r' : IsReferable (Some u.row) = rw u.is at r in let bad : true ≡ false = sym r'.0 ∙ context-unreferable u.row.kind u.context in cc) s.refers))
+    (λ y ne. refl) (none ∙ (rw k refl)) (λ z. refl) s.waiting (calm (set_mark p c mark.Busy)) in
+    let new : row_of (set_mark p c mark.Busy).rows c ≡ Some (marked_row mark.Busy u.row) = row_of-changed-same (marked_row mark.Busy) p.rows c u.row (λ z. refl) u.is in
+    rw t (record {
+      started = b.started;
+      valid = b.valid;
+      forest = b.forest;
+      refers = b.refers;
+      open_frees = λ x. ap (λ (l : List Phase). l ++ claims x fs) (same_claim x) ∙ b.open_frees x;
+      waiting = b.waiting;
+      turned = rw new (u.context, refl);
+      rests = rw t at h;
+    }))
+  where
+    context-object : (k : Kind) → is_context k ≡ true → target_of k ≡ None
+    context-object kind.Context e = refl
+    context-object _ e = cc
+
+    context-unreferable : (k : Kind) → is_context k ≡ true → is_referable k ≡ false
+    context-unreferable kind.Context e = refl
+    context-unreferable _ e = cc
+
 pub follows : (p : Pool) (c : Change) → MayDo p c → Follows p (changed_by c p) (heavier c) (added c)
 follows p Nothing may = record { weight = omega arith; number = omega arith; deposit = omega arith; later = later-same p }
 follows p (Edit x g) may =
     let w = total-kept (weight p.requests) g p.rows x may.row may.is (edited-weight p.requests g may.row (may.mark may.row) (may.place.serial may.row)) in
-    let b = total-kept deposit g p.rows x may.row may.is (ap mark_deposit (may.mark may.row)) in
+    let b = total-kept deposit g p.rows x may.row may.is (let k = may.place.kind may.row in let m = may.mark may.row in rw (k, m) refl) in
     record {
       weight = omega (arith, w);
       number = omega (arith, length-changed g p.rows x);
@@ -181,6 +258,7 @@ follows p (Renotes x g) may = record {
   deposit = omega arith;
   later = later-noted p (changed_by (Renotes x g) p) refl (omega arith) (states-renoted g p (changed_by (Renotes x g) p) x refl (λ n e. rw (may n) (omega arith)));
 }
+follows p (Enter c) may = entered p c may
 follows p c may = waits p (changed_by c p) refl refl refl
 
 -- a request may own objects
@@ -213,13 +291,14 @@ change-sound f f' fs p (AddRequest o size name) s may same calm h =
     let a : Pool = add p kind.Request o 0 (codes "req") in
     let b : Pool = note a x (new_note (record { 0 = p.next + 1 })) in
     let s1 = new-sound f f kind.Request o 0 (codes "req") fs p s may.0 (λ t e. cc) (λ y. refl) (calm a) in
-    let s2 = waiting-sound f f fs a b s1 refl refl (λ y. refl) (calm b) in
+    let s2 = waiting-sound f f fs a b s1 refl refl refl (λ y. refl) (calm b) in
     new-sound f f' kind.Plain (Of x) size name fs b s2 (request-owner p o) (λ t e. cc) same h
 change-sound f f' fs p (AddQueue o name) s may same calm h =
     let a : Pool = add p kind.Queue o 0 name in
-    waiting-sound f f' fs a (add_queue p o name) (new-sound f f kind.Queue o 0 name fs p s may (λ t e. cc) (λ y. refl) (calm a)) refl refl same h
+    waiting-sound f f' fs a (add_queue p o name) (new-sound f f kind.Queue o 0 name fs p s may (λ t e. cc) (λ y. refl) (calm a)) refl refl refl same h
 change-sound f f' fs p (AddEntry q x trigger) s may same calm h =
     let a : Pool = add p kind.Entry (Of x) 0 (codes "entry") in
-    waiting-sound f f' fs a (add_entry p q x trigger) (new-sound f f kind.Entry (Of x) 0 (codes "entry") fs p s (request-owns p.rows x may.0) (λ t e. cc) (λ y. refl) (calm a)) refl refl same h
+    waiting-sound f f' fs a (add_entry p q x trigger) (new-sound f f kind.Entry (Of x) 0 (codes "entry") fs p s (request-owns p.rows x may.0) (λ t e. cc) (λ y. refl) (calm a)) refl refl refl same h
 change-sound f f' fs p TakeNumber s may same calm h = numbered-sound f f' fs p s same h
-change-sound f f' fs p c s may same calm h = waiting-sound f f' fs p (changed_by c p) s refl refl same h
+change-sound f f' fs p (Enter c) s may same calm h = entered-sound f f' fs p c s calm may same h
+change-sound f f' fs p c s may same calm h = waiting-sound f f' fs p (changed_by c p) s refl refl refl same h

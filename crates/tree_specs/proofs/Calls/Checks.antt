@@ -13,8 +13,8 @@ use Rattle.tree_specs.specs.declared.call.Call.{Call}
 use Rattle.tree_specs.specs.declared.reply.Reply.{Reply}
 use Rattle.tree_specs.specs.declared.reply.Reply.TheVariants.{Number, Bytes, No}
 use Rattle.tree_specs.specs.declared.reply.Refusal.{Refusal}
-use Rattle.tree_specs.specs.declared.reply.Refusal.TheVariants.{WrongKind, NotParent, Loop, TooBig, Full, Spent}
-use Rattle.tree_specs.specs.Words.Objects.{same_owner}
+use Rattle.tree_specs.specs.declared.reply.Refusal.TheVariants.{Dying as IsDyingRefusal, WrongKind, NotParent, Loop, TooBig, Full, Spent, Nested}
+use Rattle.tree_specs.specs.Words.Objects.{first_context, same, same_owner}
 use Rattle.tree_specs.specs.declared.question.Ask.{Ask}
 use Rattle.tree_specs.specs.declared.question.Ask.TheVariants as ask
 use Rattle.tree_specs.specs.declared.question.Act.TheVariants as act
@@ -22,17 +22,17 @@ use Rattle.tree_specs.specs.declared.question.Input.{Input}
 use Rattle.tree_specs.specs.declared.question.Input.TheVariants as input
 use Rattle.tree_specs.specs.declared.frame.Frame.{Frame}
 use Rattle.tree_specs.specs.Tree.Targets.{target_of, is_reference}
-use Rattle.tree_specs.specs.Tree.Pool.{Pool, row_of, is_object_row, is_owner, is_below, owner_of, newest_ref_of, reaches, is_inside}
+use Rattle.tree_specs.specs.Tree.Pool.{Pool, row_of, is_object_row, is_owner, is_below, owner_of, newest_ref_of, reaches, is_inside, is_usable_row, is_context_row}
 use Rattle.tree_specs.specs.Tree.Reports.{count_refs}
 use Rattle.tree_specs.specs.Calls.Given.{Given, given_to}
 use Rattle.tree_specs.specs.Calls.Given.Given.{Calls, Returns, Tells, IsReady, Opens, Answers}
 use Rattle.tree_specs.specs.declared.test.Test.{Test}
-use Rattle.tree_specs.specs.Calls.Plans.{Change, Plan, plan, planned, replies, unless_refused, frees, handed}
+use Rattle.tree_specs.specs.Calls.Plans.{Change, Plan, plan, planned, replies, unless_refused, frees, handed, planned_at}
 use Rattle.tree_specs.specs.Calls.Plans.Change.{Nothing, Place}
 use Rattle.tree_specs.specs.Calls.Plans.Plan.{Does, Works}
-use Rattle.tree_specs.specs.Calls.Refusals.{Check, tests, refusals, refuse_if, refusal_of, refused, size_limit, row_limit, object_row, object, owner, room, apart, interested, given_by, is_running_mark, is_open}
-use Rattle.tree_specs.specs.declared.test.Test.TheVariants.{IsSmall, IsObject, IsOwner, IsPlain, IsImmediate, IsDescriptor, IsRequest, IsReferable, IsOpen, IsUnwatched, HasRoom, HasNumber, IsInProgress, IsFinished, MayFail, Fits, MayGrow, IsNotDying, IsNotDoomed, IsNotRunning, IsNotInside, IsUnheld, IsUnreferenced, IsInterested, MayGive, IsQueue, IsMovable, IsNotGoing}
-use Rattle.tree_specs.specs.Calls.Passed.{Interest, AsOwner, AsHolder, Gives, Itself, ItsRef, Passed, AllPassed}
+use Rattle.tree_specs.specs.Calls.Refusals.{of_kind, context, Check, tests, refusals, refuse_if, refusal_of, refused, size_limit, row_limit, object_row, object, owner, room, apart, interested, given_by, is_running_mark, is_open, is_nested}
+use Rattle.tree_specs.specs.declared.test.Test.TheVariants.{IsContext, IsSmall, IsObject, IsOwner, IsPlain, IsImmediate, IsDescriptor, IsRequest, IsReferable, IsOpen, IsUnwatched, HasRoom, HasNumber, IsInProgress, IsFinished, MayFail, Fits, MayGrow, IsNotDying, IsNotDoomed, IsNotRunning, IsNotInside, IsUnheld, IsUnreferenced, IsInterested, MayGive, IsQueue, IsMovable, IsNotGoing}
+use Rattle.tree_specs.specs.Calls.Passed.{Interest, AsOwner, AsHolder, Gives, Itself, ItsRef, IsUsable, First, Stays, Passed, AllPassed}
 use Rattle.tree_specs.specs.Invariants.Sound.{IsLive, MayBePlaced}
 use Rattle.tree_specs.specs.Words.Ranges.{is_sound_call, is_return, is_routine, is_time}
 use Rattle.tree_specs.specs.Words.Octets.{is_octets}
@@ -116,6 +116,15 @@ passes-given p from to x e = by_test (is_below (owner_of p.rows x) from)
     (λ t. let g : apart p x to ≡ [] = rw t at e in Itself t (refuse_if-none _ (Loop x to) g))
     (λ t. let g : refuse_if (not (is_some (newest_ref_of p.rows from x))) (NotParent x from) ≡ [] = rw t at e in held-ref p from x (λ r u n. ItsRef r u n) t g)
 
+passes-context : (p : Pool) (c : Obj) → context p c ≡ [] → IsUsable p c
+passes-context p c e = by_test (same c first_context)
+    (λ t. First t)
+    (λ t.
+    let e' : object p c ++ (of_kind is_context_row p c ++ refuse_if (not (is_usable_row (row_of p.rows c))) (IsDyingRefusal c)) ≡ [] = rw t at e in
+    let a = both-none (object p c) (of_kind is_context_row p c ++ refuse_if (not (is_usable_row (row_of p.rows c))) (IsDyingRefusal c)) e' in
+    let b = both-none (of_kind is_context_row p c) (refuse_if (not (is_usable_row (row_of p.rows c))) (IsDyingRefusal c)) a.1 in
+    Stays (not-false _ (refuse_if-none _ _ b.0)) (not-false _ (refuse_if-none _ _ b.1)))
+
 pub passes : (p : Pool) (t : Test) → refusal_of p t ≡ [] → Passed p t
 passes p (IsSmall size) e = let big : nat_le size_limit size ≡ false = refuse_if-none _ (TooBig size) e in grind (arith, nat_tests)
 passes p (IsObject x) e = passes-object p x e
@@ -125,6 +134,7 @@ passes p (IsImmediate x) e = not-false _ (refuse_if-none _ _ e)
 passes p (IsDescriptor x) e = not-false _ (refuse_if-none _ _ e)
 passes p (IsRequest x) e = not-false _ (refuse_if-none _ _ e)
 passes p (IsQueue x) e = not-false _ (refuse_if-none _ _ e)
+passes p (IsContext c) e = passes-context p c e
 passes p (IsMovable x) e = not-true _ (not-false _ (refuse_if-none _ _ e))
 passes p (IsReferable x) e = not-false _ (refuse_if-none _ _ e)
 passes p (IsOpen fd) e = not-false _ (refuse_if-none _ _ e)
@@ -158,6 +168,10 @@ planned-by P p c passed refused = each (refusals p c) refl
     each : (check : Check) → refusals p c ≡ check → P (unless_refused check (plan p c))
     each [] none = passed (all-pass p (tests c) none)
     each (why ∷ later) e = refused (No why)
+
+-- what holds of the plan of a call, and of a nested turn's, holds where the call is given at any question
+pub planned-at-by : (P : Plan → Type 0) (q : Ask) (p : Pool) (c : Call) → P (planned p c) → (is_nested q c ≡ true → P (replies (No Nested))) → P (planned_at q p c)
+planned-at-by P q p c plan nested = by_test (is_nested q c) (λ t. rw t (nested t)) (λ t. rw t plan)
 
 -- what a plan changes is all such
 abbrev pub Makes : (Change → Type 0) → Plan → Type 0

@@ -15,7 +15,7 @@ use Rattle.tree_specs.specs.declared.reply.Reply.TheVariants.{No}
 use Rattle.tree_specs.specs.declared.reply.Refusal.{Refusal}
 use Rattle.tree_specs.specs.declared.reply.Refusal.TheVariants as refusal
 use Rattle.tree_specs.specs.declared.event.Event.TheVariants.{Replied}
-use Rattle.tree_specs.specs.Tree.Pool.{Pool, row_of, is_below, owner_of, is_object, is_owner}
+use Rattle.tree_specs.specs.Tree.Pool.{Pool, row_of, is_below, owner_of, is_object, is_owner, is_context_row}
 use Rattle.tree_specs.specs.Tree.Targets.{is_reference}
 use Rattle.tree_specs.specs.Rules.Items.{Item}
 use Rattle.tree_specs.specs.Rules.Items.Item.{Told}
@@ -23,12 +23,12 @@ use Rattle.tree_specs.specs.declared.test.Test.{Test}
 use Rattle.tree_specs.specs.declared.request.Note.{Note}
 use Rattle.tree_specs.specs.declared.request.State.{State}
 use Rattle.tree_specs.specs.Events.Requests.{is_in_progress, note_of}
-use Rattle.tree_specs.specs.Calls.Refusals.{is_finished}
-use Rattle.tree_specs.specs.Calls.Refusals.{Check, row_limit, refuse_if, refusal_of, refused, refusals, over, fits_in, fits, growing, in_state, object_row, object, owner, room, given_by, held, is_held, is_running}
-use Rattle.tree_specs.specs.declared.test.Test.TheVariants.{IsSmall, IsObject, IsOwner, IsPlain, IsImmediate, IsDescriptor, IsRequest, IsReferable as IsReferableTest, IsOpen, IsUnwatched, HasRoom, HasNumber, IsInProgress, IsFinished, MayFail, Fits, MayGrow, IsNotDying, IsNotDoomed, IsNotRunning, IsNotInside, IsUnheld, IsUnreferenced, IsInterested, MayGive, IsQueue, IsMovable, IsNotGoing}
+use Rattle.tree_specs.specs.Calls.Refusals.{context, of_kind, is_finished, Check, row_limit, refuse_if, refusal_of, refused, refusals, over, fits_in, fits, growing, in_state, object_row, object, owner, room, given_by, held, is_held, is_running}
+use Rattle.tree_specs.specs.declared.test.Test.TheVariants.{IsContext, IsSmall, IsObject, IsOwner, IsPlain, IsImmediate, IsDescriptor, IsRequest, IsReferable as IsReferableTest, IsOpen, IsUnwatched, HasRoom, HasNumber, IsInProgress, IsFinished, MayFail, Fits, MayGrow, IsNotDying, IsNotDoomed, IsNotRunning, IsNotInside, IsUnheld, IsUnreferenced, IsInterested, MayGive, IsQueue, IsMovable, IsNotGoing}
 use Rattle.tree_specs.specs.Rules.Sequence.{Scene}
 use Rattle.tree_specs.specs.Promises.Orderly.{RefusedJustNow}
 use Rattle.tree_specs.specs.Promises.Grounded.{AnsweredCall, HeldCall, CausedCall}
+use Rattle.tree_specs.specs.Words.Objects.{same, first_context}
 use Rattle.tree_specs.proofs.Tree.Numbered.{by_test, same-equal}
 use Rattle.tree_specs.proofs.Tree.References.{not-held}
 use Rattle.tree_specs.proofs.Calls.Checks.{not-true}
@@ -86,6 +86,11 @@ own-state : (p : Pool) (x : Obj) (is_right : State → Bool) (n : Option Note) �
 own-state p x is_right None = tt
 own-state p x is_right (Some n) = own-if p _ _ (λ t. tt)
 
+own-context : (p : Pool) (c : Obj) → AllOwn p (context p c)
+own-context p c = by_test (same c first_context)
+    (λ t. rw t tt)
+    (λ t. rw t (own-both p (object p c) _ (own-object p c) (own-both p (of_kind is_context_row p c) _ (own-if p _ _ (λ u. tt)) (own-if p _ _ (λ u. tt)))))
+
 own-test : (p : Pool) (t : Test) → AllOwn p (refusal_of p t)
 own-test p (IsSmall size) = own-if p _ _ (λ t. tt)
 own-test p (IsObject x) = own-object p x
@@ -95,6 +100,7 @@ own-test p (IsImmediate x) = own-if p _ _ (λ t. tt)
 own-test p (IsDescriptor x) = own-if p _ _ (λ t. tt)
 own-test p (IsRequest x) = own-if p _ _ (λ t. tt)
 own-test p (IsQueue x) = own-if p _ _ (λ t. tt)
+own-test p (IsContext c) = own-context p c
 own-test p (IsMovable x) = own-if p _ _ (λ t. tt)
 own-test p (IsReferableTest x) = own-if p _ _ (λ t. tt)
 own-test p (IsOpen fd) = own-if p _ _ (λ t. tt)

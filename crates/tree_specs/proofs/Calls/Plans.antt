@@ -22,8 +22,8 @@ use Rattle.tree_specs.specs.Tree.Targets.{target_of, newest_ref}
 use Rattle.tree_specs.specs.Calls.Refusals.{tests, refusals, in_state, in_progress, is_immediate, is_request, is_request_row, is_queue, is_queue_row}
 use Rattle.tree_specs.specs.declared.moment.What.TheVariants as what
 use Rattle.tree_specs.specs.Invariants.Awaiting.{waits_as, waits_as_row, is_event, is_event_row}
-use Rattle.tree_specs.specs.declared.test.Test.TheVariants.{IsObject, IsImmediate, IsRequest, IsInProgress as IsInProgressTest, IsNotDoomed, IsQueue}
-use Rattle.tree_specs.specs.Calls.Plans.{Plan, changed_by, plan, planned, places, warns, frees, handed, gift}
+use Rattle.tree_specs.specs.declared.test.Test.TheVariants.{IsContext, IsObject, IsImmediate, IsRequest, IsInProgress as IsInProgressTest, IsNotDoomed, IsQueue}
+use Rattle.tree_specs.specs.Calls.Plans.{Plan, changed_by, plan, planned, places, warns, frees, handed, gift, planned_at}
 use Rattle.tree_specs.specs.Calls.Plans.Change.{Nothing}
 use Rattle.tree_specs.specs.Calls.Plans.Plan.{Does, Frees, Unlinks, Empties, Asks, Turns, Works}
 use Rattle.tree_specs.specs.Invariants.Sound.{IsLive, IsReferable, IsQuietRow, MayReceive, MayBePlaced, Sound}
@@ -32,9 +32,9 @@ use Rattle.tree_specs.proofs.Tree.Numbered.{by_test, same-equal, is_below-some}
 use Rattle.tree_specs.proofs.Tree.Rows.{row_of-placed-same}
 use Rattle.tree_specs.proofs.Tree.Rooted.{KeepsPlace}
 use Rattle.tree_specs.proofs.Tree.Referring.{newest-refers, newest-of-refers, refers-nothing, reference-outside, object-refers}
-use Rattle.tree_specs.specs.Calls.Passed.{Passed, AllPassed, Interest, AsOwner, AsHolder, Gives, Itself, ItsRef}
+use Rattle.tree_specs.specs.Calls.Passed.{IsUsable, Passed, AllPassed, Interest, AsOwner, AsHolder, Gives, Itself, ItsRef}
 use Rattle.tree_specs.proofs.Events.HandlerLaws.{with-own}
-use Rattle.tree_specs.proofs.Calls.Checks.{all-pass, planned-by, may-place, quiet-row}
+use Rattle.tree_specs.proofs.Calls.Checks.{all-pass, planned-by, may-place, quiet-row, planned-at-by}
 use Rattle.tree_specs.proofs.Invariants.Changes.{names-place, hooks-place, sizes-place, limits-place, nobody, owned-row}
 use Rattle.tree_specs.proofs.Invariants.KeptGivings.{referred-live}
 use Rattle.tree_specs.specs.declared.frame.Errand.{Errand}
@@ -75,7 +75,7 @@ May p (Frees x) = (newest_ref p.rows x ≡ None) × (target_at p.rows x ≡ None
 May p (Unlinks o x) = (r : Row) × (row_of p.rows x ≡ Some r) × IsLive r.mark × (target_of r.kind ≡ None)
 May p (Empties x) = Unit {0}
 May p (Asks q) = IsOutside q
-May p Turns = Unit {0}
+May p (Turns c) = IsUsable p c
 May p (Works c errand x) = MayDo p c × (added c ≡ 0) × (heavier c ≡ 0) × MayWork (changed_by c p) errand x
 
 -- the reference that goes in the place of its target
@@ -132,16 +132,16 @@ module _ (f : Frame) (fs : List Frame) (p : Pool) (s : Sound f fs p) where
       rw (t, n) (ref-placed f fs p to x r s (rw w.1 w.2) there, omega arith, tt, omega arith)
 
   -- an immediate that isn't doomed
-  scheduled : (x : Obj) → AllPassed p (IsObject x ∷ IsImmediate x ∷ IsNotDoomed x ∷ []) → waits_as_row what.Immediate (row_of p.rows x) ≡ true
-  scheduled x h = let k : is_immediate h.0.0.kind ≡ true = rw h.0.1 at h.1.0 in rw h.0.1 (comes h.0.0.kind k)
+  scheduled : (x c : Obj) → AllPassed p (IsObject x ∷ IsImmediate x ∷ IsNotDoomed x ∷ IsContext c ∷ []) → waits_as_row what.Immediate (row_of p.rows x) ≡ true
+  scheduled x c h = let k : is_immediate h.0.0.kind ≡ true = rw h.0.1 at h.1.0 in rw h.0.1 (comes h.0.0.kind k)
     where
       comes : (k : Kind) → is_immediate k ≡ true → waits_as what.Immediate k ≡ true
       comes kind.Immediate e = refl
       comes _ e = cc
 
   -- it is an event
-  event : (x : Obj) → AllPassed p (IsObject x ∷ IsImmediate x ∷ IsNotDoomed x ∷ []) → is_event_row (row_of p.rows x) ≡ true
-  event x h = let k : is_immediate h.0.0.kind ≡ true = rw h.0.1 at h.1.0 in rw h.0.1 (comes h.0.0.kind k)
+  event : (x c : Obj) → AllPassed p (IsObject x ∷ IsImmediate x ∷ IsNotDoomed x ∷ IsContext c ∷ []) → is_event_row (row_of p.rows x) ≡ true
+  event x c h = let k : is_immediate h.0.0.kind ≡ true = rw h.0.1 at h.1.0 in rw h.0.1 (comes h.0.0.kind k)
     where
       comes : (k : Kind) → is_immediate k ≡ true → is_event k ≡ true
       comes kind.Immediate e = refl
@@ -196,40 +196,41 @@ module _ (f : Frame) (fs : List Frame) (p : Pool) (s : Sound f fs p) where
   each (call.Count o) h = (tt, omega arith, tt, omega arith)
   each (call.Sum o) h = (tt, omega arith, tt, omega arith)
   each (call.Report o) h = (tt, omega arith, tt, omega arith)
+  each (call.Context o) h = (record { there = h.0; target = λ t e. cc }, omega arith, tt, omega arith)
   each (call.Immediate o) h = (record { there = h.0; target = λ t e. cc }, omega arith, tt, omega arith)
-  each (call.Schedule x routine user) h = by_test (nat_eq routine 0)
+  each (call.Schedule x routine user c) h = by_test (nat_eq routine 0)
       (λ t. rw t (tt, omega arith, tt, omega arith))
-      (λ t. rw t ((event x h, record { comes = scheduled x h; ready = λ i. with-own p.handlers x (record { routine = routine; user = user }) }), omega arith, tt, omega arith))
+      (λ t. rw t ((event x c h, record { comes = scheduled x c h; ready = λ i. with-own p.handlers x (record { routine = routine; user = user; context = c }) }), omega arith, tt, omega arith))
   each (call.Unschedule x) h = (tt, omega arith, tt, omega arith)
-  each (call.Timer o time routine user) h =
+  each (call.Timer o time routine user c) h =
       let n : Obj = record { 0 = p.next } in
       let self : same n n ≡ true = same-equal n n refl in
-      ((record { there = h.0; target = λ t e. cc }, (rw self refl, record { comes = rw self refl; ready = λ i. with-own p.handlers n (record { routine = routine; user = user }) })), omega arith, tt, omega arith)
-  each (call.Fd o fd flags routine user) h =
+      ((record { there = h.0; target = λ t e. cc }, (rw self refl, record { comes = rw self refl; ready = λ i. with-own p.handlers n (record { routine = routine; user = user; context = c }) })), omega arith, tt, omega arith)
+  each (call.Fd o fd flags routine user c) h =
       let n : Obj = record { 0 = p.next } in
       let self : same n n ≡ true = same-equal n n refl in (
         (
           record { there = h.0; target = λ t e. cc },
-          (rw self refl, record { comes = rw self (refl, refl); ready = with-own p.handlers n (record { routine = routine; user = user }); free = h.1.1.0; open_one = h.1.0 }),
+          (rw self refl, record { comes = rw self (refl, refl); ready = with-own p.handlers n (record { routine = routine; user = user; context = c }); free = h.1.1.0; open_one = h.1.0 }),
         ),
         omega arith,
         tt,
         omega arith,
       )
-  each (call.Flags x flags) h = (record { object = λ w. refl; fd = λ w. refl }, omega arith, tt, omega arith)
+  each (call.Flags x flags) h = (record { object = λ w. refl; fd = λ w. refl; context = λ w. refl }, omega arith, tt, omega arith)
   each (call.Getflags x) h = (tt, omega arith, tt, omega arith)
-  each (call.Autoclose x) h = (record { object = λ w. refl; fd = λ w. refl }, omega arith, tt, omega arith)
+  each (call.Autoclose x) h = (record { object = λ w. refl; fd = λ w. refl; context = λ w. refl }, omega arith, tt, omega arith)
   each (call.Close fd) h = (h.1.0, omega arith, tt, omega arith)
   each (call.Accept fd) h = tt
   each (call.Read fd len) h = tt
   each (call.Write fd bytes) h = tt
   each (call.Req o size name) h = ((h.1.0, nobody p s.valid), omega arith, tt, omega arith)
   each (call.Callback x routine user) h = (λ n. refl, omega arith, tt, omega arith)
-  each (call.Defer x) h = (λ n. refl, omega arith, tt, omega arith)
+  each (call.Defer x c) h = (λ n. refl, omega arith, tt, omega arith)
   each (call.Cleanup x routine) h = (λ n. refl, omega arith, tt, omega arith)
   each (call.Setcancel x routine) h = (λ n. refl, omega arith, tt, omega arith)
   each (call.Cancel x) h = (tt, refl, refl, tt)
-  each (call.Post x) h = (posted what.Immediate x refl h.1.0, omega arith, tt, omega arith)
+  each (call.Post x c) h = (posted what.Immediate x refl h.1.0, omega arith, tt, omega arith)
   each (call.Done x) h = finishes x state.Done tt h.1.0 h.1.1.0
   each (call.Error x error) h = by_test (nat_eq error 0)
       (λ t. rw t (tt, omega arith, tt, omega arith))
@@ -237,19 +238,19 @@ module _ (f : Frame) (fs : List Frame) (p : Pool) (s : Sound f fs p) where
   each (call.Oom x) h = finishes x state.NoMemory tt h.1.0 h.1.1.0
   each (call.Iserror x) h = (tt, omega arith, tt, omega arith)
   each (call.Progress x) h = (tt, omega arith, tt, omega arith)
-  each (call.Endtime x time) h = ((posted what.Timer x refl h.1.0, tt), omega arith, tt, omega arith)
+  each (call.Endtime x time c) h = ((posted what.Timer x refl h.1.0, tt), omega arith, tt, omega arith)
   each (call.Received x) h = (tt, refl, refl, (h.0.0, h.0.1))
   each (call.Queue o name) h = (h.0, omega arith, tt, omega arith)
-  each (call.Enqueue q x routine user) h = ((h.1.1.1.1.0, queue-waits q h.1.0, h.1.0, nobody p s.valid), omega arith, tt, omega arith)
+  each (call.Enqueue q x routine user c) h = ((h.1.1.1.1.0, queue-waits q h.1.0, h.1.0, nobody p s.valid), omega arith, tt, omega arith)
   each (call.Start q) h = by_test (runs p.queues q)
       (λ t. rw t (tt, omega arith, tt, omega arith))
       (λ t. let w = queue-waits q h.1.0 in rw t ((tt, record { comes = w.comes; ready = w.ready }), omega arith, tt, omega arith))
   each (call.Stop q) h = (tt, omega arith, tt, omega arith)
   each (call.Length q) h = (tt, omega arith, tt, omega arith)
   each (call.Running q) h = (tt, omega arith, tt, omega arith)
-  each call.Pending h = (tt, omega arith, tt, omega arith)
+  each (call.Pending c) h = (tt, omega arith, tt, omega arith)
   each call.Now h = tt
-  each call.Turn h = tt
+  each (call.Turn c) h = h.0
 
   pub may : (c : Call) → refusals p c ≡ [] → May p (plan p c)
   may c none = each c (all-pass p (tests c) none)
@@ -257,3 +258,7 @@ module _ (f : Frame) (fs : List Frame) (p : Pool) (s : Sound f fs p) where
   -- and one that is refused only replies
   pub may-planned : (c : Call) → May p (planned p c)
   may-planned c = planned-by (May p) p c (each c) (λ r. (tt, omega arith, tt, omega arith))
+
+  -- wherever it is given
+  pub may-planned-at : (q : Ask) (c : Call) → May p (planned_at q p c)
+  may-planned-at q c = planned-at-by (May p) q p c (may-planned c) (λ t. (tt, omega arith, tt, omega arith))

@@ -1,35 +1,35 @@
--- What each change of the pool leaves of what waits.
-use Rattle.std.proofs.Common.{◌≡◌, ◌≢◌, ℕ, Bool, List, [], ◌∷◌, nat_eq, Option, Some, None, true, false, refl, sym, ◌∙◌, ap, subst, inl, inr}
+-- What each change of the rows leaves of what waits.
+use Rattle.std.proofs.Common.{◌≡◌, ◌≢◌, ℕ, List, [], ◌∷◌, nat_eq, Option, Some, None, true, false, refl, sym, ◌∙◌, ap, subst, ◌⊎◌, inl, inr}
 use Rattle.std.proofs.lemmas.Bool.{eqb-true}
-use Rattle.std.specs.Prelude.{is_some, if◌then◌else◌}
+use Rattle.std.specs.Prelude.{is_some}
 use Rattle.tree_specs.specs.declared.object.Obj.{Obj}
 use Rattle.tree_specs.specs.declared.object.Owner.{Owner}
 use Rattle.tree_specs.specs.declared.row.Row.{Row}
 use Rattle.tree_specs.specs.declared.row.Mark.{Mark}
 use Rattle.tree_specs.specs.declared.kind.Kind.{Kind}
 use Rattle.tree_specs.specs.declared.kind.Kind.TheVariants as kind
-use Rattle.tree_specs.specs.declared.handler.Handler.{Handler}
 use Rattle.tree_specs.specs.declared.queue.QueueEntry.{QueueEntry}
 use Rattle.tree_specs.specs.declared.moment.What.{What}
 use Rattle.tree_specs.specs.declared.moment.What.TheVariants.{Immediate, Timer, Descriptor}
-use Rattle.tree_specs.specs.declared.watch.Watch.{Watch}
+use Rattle.tree_specs.specs.declared.coming.Coming.{Coming}
 use Rattle.tree_specs.specs.Words.Objects.{same}
 use Rattle.tree_specs.specs.Tree.Targets.{target_of}
-use Rattle.tree_specs.specs.Tree.Pool.{Pool, row_of, target_at, changed, without, add, let_go, looked_after, look_at, remove, place, set_mark, marked_row, set_handler, schedule, unschedule, arm, disarm, watch, rewatch, turn_back, open_descriptor, close_descriptor}
-use Rattle.tree_specs.specs.Events.Pending.{is_scheduled, scheduled, unscheduled}
-use Rattle.tree_specs.specs.Events.Queues.{entry_of, without_entry, next_of}
-use Rattle.tree_specs.specs.Events.Rotation.{is_watching, is_watched, closes_with, unwatched}
-use Rattle.tree_specs.specs.Events.Descriptors.{Descriptors, is_open_in, shut}
-use Rattle.tree_specs.specs.Calls.Refusals.{is_doomed_mark, is_open}
+use Rattle.tree_specs.specs.Tree.Pool.{Pool, row_of, target_at, changed, without, new_row, add, let_go, is_usable, put_soon, looked_after, remove, place, set_mark, marked_row}
+use Rattle.tree_specs.specs.Events.Pending.{is_scheduled, unscheduled, disarmed}
+use Rattle.tree_specs.specs.Events.Queues.{Head, entry_of, without_entry, next_of}
+use Rattle.tree_specs.specs.Events.Rotation.{is_watched, closes_with, unwatched}
+use Rattle.tree_specs.specs.Events.Descriptors.{is_open_in, shut}
+use Rattle.tree_specs.specs.Calls.Refusals.{is_doomed_mark}
 use Rattle.tree_specs.specs.Invariants.Sound.{MayBePlaced}
-use Rattle.tree_specs.specs.Invariants.Awaiting.{waits, waits_as, MayCome, is_event_row, IsHandled, AreDistinct, Awaits}
+use Rattle.tree_specs.specs.Invariants.Awaiting.{waits, waits_as, MayCome, is_event_row, IsHandled, has_soon, has_times, is_live_context_row, is_live_context, Awaits}
 use Rattle.tree_specs.proofs.Tree.Numbered.{by_test, same-true, same-equal, same-false, same_or_not}
 use Rattle.tree_specs.proofs.Tree.Rows.{row_of-changed-other, row_of-without-other, row_of-placed-other, row_of-placed-same}
 use Rattle.tree_specs.specs.Events.Handlers.{handler_of}
-use Rattle.tree_specs.proofs.Events.EntryLaws.{with-same, with-other, without-same, without-other}
-use Rattle.tree_specs.proofs.Events.PendingLaws.{unscheduled-other, scheduled-either, disarmed-other, armed-either}
-use Rattle.tree_specs.proofs.Events.RotationLaws.{unwatched-watched, unwatched-other, unwatched-distinct, unwatched-freed, closes-found, watched-watching, watched-watched, watched-distinct, rewatched-watching, rewatched-watched, rewatched-distinct, turned-watching, turned-watched, turned-distinct}
-use Rattle.tree_specs.proofs.Events.DescriptorLaws.{opened-still, closed-other}
+use Rattle.tree_specs.proofs.Events.EntryLaws.{without-same, without-other}
+use Rattle.tree_specs.proofs.Events.PendingLaws.{unscheduled-other, scheduled-either, disarmed-other, without-scheduled, without-armed}
+use Rattle.tree_specs.proofs.Events.RotationLaws.{without-watching, without-watched, without-distinct, unwatched-watched, unwatched-other, unwatched-distinct, unwatched-freed, closes-found}
+use Rattle.tree_specs.proofs.Events.DescriptorLaws.{closed-other}
+use Rattle.tree_specs.proofs.Events.LiveContexts.{live-changed, live-placed, live-without, live-added, live-still, live-gone}
 
 -- ---- rows that come
 
@@ -79,21 +79,24 @@ reference-stays p r t is w h = each (row_of p.rows r) refl h
 
 -- ---- the same objects wait
 
-pub same-awaits : (p q : Pool) → Awaits p → ((w : What) (x : Obj) → waits w q x ≡ true → waits w p x ≡ true) → q.rows ≡ p.rows → q.handlers ≡ p.handlers → q.ring ≡ p.ring → q.descriptors ≡ p.descriptors → Awaits q
-same-awaits p q a fewer rows handlers ring descriptors = record {
+pub same-awaits : (p q : Pool) → Awaits p → ((w : What) (x : Obj) → waits w q x ≡ true → waits w p x ≡ true) → q.rows ≡ p.rows → q.handlers ≡ p.handlers → q.ring ≡ p.ring → q.descriptors ≡ p.descriptors
+    → ((c : Obj) → has_soon q.soon c ≡ true → has_soon p.soon c ≡ true) → ((c : Obj) → has_times q.times c ≡ true → has_times p.times c ≡ true) → Awaits q
+same-awaits p q a fewer rows handlers ring descriptors soon times = record {
   events = λ w x h. rw (rows, handlers) (a.events w x (fewer w x h));
   handlers = λ x e. rw handlers (a.handlers x (rw rows at e));
   distinct = rw ring a.distinct;
   watched = λ fd h. rw descriptors (a.watched fd (rw ring at h));
+  contexts = live-still p q (λ c l. rw rows l) soon times (λ c h. rw ring at h) a.contexts;
 }
 
 rows-awaits : (p : Pool) (rows : List Row) → Awaits p → ((w : What) (x : Obj) → MayCome w (row_of p.rows x) → MayCome w (row_of rows x)) → ((x : Obj) → is_event_row (row_of rows x) ≡ is_event_row (row_of p.rows x))
-    → Awaits (record p { rows = rows })
-rows-awaits p rows a comes event = record {
+    → ((c : Obj) → is_live_context p.rows c ≡ true → is_live_context rows c ≡ true) → Awaits (record p { rows = rows })
+rows-awaits p rows a comes event live = record {
   events = λ w x h. (let e = a.events w x (same-waits w x h) in (comes w x e.0, λ i. e.1 (sym (event x) ∙ i)));
   handlers = λ x e. a.handlers x (sym (event x) ∙ e);
   distinct = a.distinct;
   watched = a.watched;
+  contexts = live-still p (record p { rows = rows }) live (λ c h. h) (λ c h. h) (λ c h. h) a.contexts;
 }
   where
     same-waits : (w : What) (x : Obj) → waits w (record p { rows = rows }) x ≡ true → waits w p x ≡ true
@@ -103,13 +106,13 @@ rows-awaits p rows a comes event = record {
     same-waits _ x h = cc
 
 pub changed-awaits : (g : Row → Row) (p : Pool) (x : Obj) → Stays g → Awaits p → Awaits (record p { rows = changed g p.rows x })
-changed-awaits g p x k a = rows-awaits p (changed g p.rows x) a (λ w y h. changed-comes g p.rows x y w k h) (λ y. changed-event g p.rows x y k.serial k.kind)
+changed-awaits g p x k a = rows-awaits p (changed g p.rows x) a (λ w y h. changed-comes g p.rows x y w k h) (λ y. changed-event g p.rows x y k.serial k.kind) (λ c l. live-changed g p.rows x c k.serial k.kind k.mark l)
 
 pub marked-awaits : (m : Mark) (p : Pool) (x : Obj) → is_doomed_mark m ≡ false → Awaits p → Awaits (set_mark p x m)
 marked-awaits m p x live a = changed-awaits (marked_row m) p x (record { serial = λ r. refl; kind = λ r. refl; mark = λ r h. live }) a
 
 pub placed-awaits : (p : Pool) (o : Owner) (x : Obj) → MayBePlaced p o x → Awaits p → Awaits (place p o x)
-placed-awaits p o x may a = rows-awaits p (place p o x).rows a comes event
+placed-awaits p o x may a = rows-awaits p (place p o x).rows a comes event (λ c l. live-placed p o x c may l)
   where
     here : row_of (place p o x).rows x ≡ Some (record may.row { owner = Some o })
     here = row_of-placed-same p o x may.row may.is
@@ -136,13 +139,20 @@ abbrev pub MayLook : Pool → Obj → Option QueueEntry → Type 0
 MayLook p x None = Unit {0}
 MayLook p x (Some e) = is_some (next_of (without_entry p.queues x) e.queue) ≡ true → MayCome Immediate (row_of p.rows e.queue) × (is_event_row (row_of p.rows e.queue) ≡ false) × (x ≢ e.queue)
 
+-- a queue that is put into a context comes soon, and so do the others
+pub put-either : (rs : List Row) (q : Obj) (k : Head) (xs : List Coming) (y : Obj) → is_scheduled (put_soon rs q (Some k) xs) y ≡ true → (is_scheduled xs y ≡ true) ⊎ (q ≡ y)
+put-either rs q k xs y h = by_test (is_usable rs k.entry.trigger.context)
+    (λ t. scheduled-either xs q k.entry.trigger.context y (rw t at h))
+    (λ t. inl (unscheduled-other xs q y (rw t at h)).0)
+
 -- one that leaves, or is doomed
 pub gone-awaits : (g : Row → Row) (p : Pool) (x : Obj) → ((r : Row) → (g r).serial ≡ r.serial) → ((r : Row) → (g r).kind ≡ r.kind) → MayLook p x (entry_of p.queues x) → Awaits p → Awaits (let_go p x g)
 gone-awaits g p x serial kind look a = record {
   events = λ w y h. let o = other w y h in rw (row_of-changed-other g p.rows x y serial o.1) o.0;
   handlers = λ y e. a.handlers y (sym (changed-event g p.rows x y serial kind) ∙ e);
-  distinct = unwatched-distinct p.ring x a.distinct;
-  watched = λ fd h. still_open fd (closes_with p.ring x) refl h;
+  distinct = without-distinct (unwatched p.ring x) x (unwatched-distinct p.ring x a.distinct);
+  watched = λ fd h. still_open fd (closes_with p.ring x) refl (without-watched (unwatched p.ring x) x fd h);
+  contexts = live-gone g p x serial a.contexts;
 }
   where
     IsOther : What → Obj → Type 0
@@ -152,24 +162,24 @@ gone-awaits g p x serial kind look a = record {
     left y h = let o = unscheduled-other p.soon x y h in (a.events Immediate y o.0, o.1)
 
     -- those that come soon: the others, and the queue
-    after : (q y : Obj) (b : Bool) → (b ≡ true → MayCome Immediate (row_of p.rows q) × (is_event_row (row_of p.rows q) ≡ false) × (x ≢ q))
-        → is_scheduled (if b then scheduled (unscheduled p.soon x) q else unscheduled p.soon x) y ≡ true → IsOther Immediate y
-    after q y false may h = left y h
-    after q y true may h = elim (scheduled-either (unscheduled p.soon x) q y h) [
+    after : (q y : Obj) (o : Option Head) → (is_some o ≡ true → MayCome Immediate (row_of p.rows q) × (is_event_row (row_of p.rows q) ≡ false) × (x ≢ q))
+        → is_scheduled (put_soon p.rows q o (unscheduled p.soon x)) y ≡ true → IsOther Immediate y
+    after q y None may h = left y h
+    after q y (Some k) may h = elim (put-either p.rows q k (unscheduled p.soon x) y h) [
       | inl l ↦ left y l
       | inr is ↦
           let m = may refl in
           subst (IsOther Immediate) is ((m.0, λ i. let bad : true ≡ false = sym i ∙ m.1 in cc), m.2)
     ]
 
-    soon : (o : Option QueueEntry) → MayLook p x o → (y : Obj) → is_scheduled (looked_after (without_entry p.queues x) o (unscheduled p.soon x)) y ≡ true → IsOther Immediate y
+    soon : (o : Option QueueEntry) → MayLook p x o → (y : Obj) → is_scheduled (looked_after p.rows (without_entry p.queues x) o (unscheduled p.soon x)) y ≡ true → IsOther Immediate y
     soon None may y h = left y h
-    soon (Some e) may y h = after e.queue y (is_some (next_of (without_entry p.queues x) e.queue)) may h
+    soon (Some e) may y h = after e.queue y (next_of (without_entry p.queues x) e.queue) may h
 
     other : (w : What) (y : Obj) → waits w (let_go p x g) y ≡ true → IsOther w y
-    other Immediate y h = soon (entry_of p.queues x) look y h
-    other Timer y h = let o = disarmed-other p.times x y h in (a.events Timer y o.0, o.1)
-    other Descriptor y h = let o = unwatched-other p.ring x y h in (a.events Descriptor y o.0, o.1)
+    other Immediate y h = soon (entry_of p.queues x) look y (without-scheduled (looked_after p.rows (without_entry p.queues x) (entry_of p.queues x) (unscheduled p.soon x)) x y h)
+    other Timer y h = let o = disarmed-other p.times x y (without-armed (disarmed p.times x) x y h) in (a.events Timer y o.0, o.1)
+    other Descriptor y h = let o = unwatched-other p.ring x y (without-watching (unwatched p.ring x) x y h) in (a.events Descriptor y o.0, o.1)
     other _ y h = cc
 
     -- nobody else watches the descriptor that is closed with it
@@ -184,8 +194,14 @@ gone-awaits g p x serial kind look a = record {
         (λ t. closed-other p.descriptors closing fd t ∙ a.watched fd (unwatched-watched p.ring x fd h))
 
 -- one that doesn't wait
-pub removed-awaits : (p : Pool) (x : Obj) → ((w : What) → MayCome w (row_of p.rows x) → ⊥) → Awaits p → Awaits (remove p x)
-removed-awaits p x stays a = record { events = events; handlers = handlers; distinct = a.distinct; watched = a.watched }
+pub removed-awaits : (p : Pool) (x : Obj) → ((w : What) → MayCome w (row_of p.rows x) → ⊥) → is_live_context_row (row_of p.rows x) ≡ false → Awaits p → Awaits (remove p x)
+removed-awaits p x stays dead a = record {
+  events = events;
+  handlers = handlers;
+  distinct = a.distinct;
+  watched = a.watched;
+  contexts = live-still p (remove p x) (λ c l. live-without p.rows x c dead l) (λ c h. h) (λ c h. h) (λ c h. h) a.contexts;
+}
   where
     still : (w : What) (y : Obj) → waits w (remove p x) y ≡ true → waits w p y ≡ true
     still Immediate y h = h
@@ -208,7 +224,13 @@ removed-awaits p x stays a = record { events = events; handlers = handlers; dist
 -- ---- a new object
 
 pub added-awaits : (p : Pool) (kind : Kind) (o : Owner) (size : ℕ) (name : List ℕ) → row_of p.rows (record { 0 = p.next }) ≡ None → Awaits p → Awaits (add p kind o size name)
-added-awaits p kind o size name fresh a = record { events = events; handlers = handlers; distinct = a.distinct; watched = a.watched }
+added-awaits p kind o size name fresh a = record {
+  events = events;
+  handlers = handlers;
+  distinct = a.distinct;
+  watched = a.watched;
+  contexts = live-still p (add p kind o size name) (λ c l. live-added p.rows (new_row (record { 0 = p.next }) kind o size name) c fresh l) (λ c h. h) (λ c h. h) (λ c h. h) a.contexts;
+}
   where
     n : Obj
     n = record { 0 = p.next }
@@ -229,137 +251,3 @@ added-awaits p kind o size name fresh a = record { events = events; handlers = h
     handlers y e = by_test (same n y)
         (λ t. a.handlers y (let q : n ≡ y = same-true n y t in subst (λ (z : Obj). is_event_row (row_of p.rows z) ≡ false) q (ap is_event_row fresh)))
         (λ t. a.handlers y (rw t at e))
-
--- ---- an object is to come
-
-pub handled-awaits : (p : Pool) (x : Obj) (h : Handler) → is_event_row (row_of p.rows x) ≡ true → Awaits p → Awaits (set_handler p x h)
-handled-awaits p x h there a = record { events = events; handlers = handlers; distinct = a.distinct; watched = a.watched }
-  where
-    still : (w : What) (y : Obj) → waits w (set_handler p x h) y ≡ true → waits w p y ≡ true
-    still Immediate y k = k
-    still Timer y k = k
-    still Descriptor y k = k
-    still _ y k = cc
-
-    events : (w : What) (y : Obj) → waits w (set_handler p x h) y ≡ true → MayCome w (row_of p.rows y) × IsHandled (row_of p.rows y) (handler_of (set_handler p x h).handlers y)
-    events w y k =
-        let e = a.events w y (still w y k) in
-        by_test (same y x) (λ t. (e.0, λ i. ap is_some (with-same p.handlers x y h t))) (λ t. (e.0, λ i. ap is_some (with-other p.handlers x y h t) ∙ e.1 i))
-
-    handlers : (y : Obj) → is_event_row (row_of p.rows y) ≡ false → handler_of (set_handler p x h).handlers y ≡ None
-    handlers y e = by_test (same y x)
-        (λ t. let e' : is_event_row (row_of p.rows x) ≡ false = subst (λ (z : Obj). is_event_row (row_of p.rows z) ≡ false) (same-true y x t) e in let bad : true ≡ false = sym there ∙ e' in cc)
-        (λ t. with-other p.handlers x y h t ∙ a.handlers y e)
-
-pub scheduled-awaits : (p : Pool) (x : Obj) → MayCome Immediate (row_of p.rows x) → IsHandled (row_of p.rows x) (handler_of p.handlers x) → Awaits p → Awaits (schedule p x)
-scheduled-awaits p x comes ready a = record { events = events; handlers = a.handlers; distinct = a.distinct; watched = a.watched }
-  where
-    events : (w : What) (y : Obj) → waits w (schedule p x) y ≡ true → MayCome w (row_of p.rows y) × IsHandled (row_of p.rows y) (handler_of p.handlers y)
-    events Immediate y h = elim (scheduled-either p.soon x y h) [
-      | inl l ↦ a.events Immediate y l
-      | inr e ↦ subst (λ (z : Obj). MayCome Immediate (row_of p.rows z) × IsHandled (row_of p.rows z) (handler_of p.handlers z)) e (comes, ready)
-    ]
-    events Timer y h = a.events Timer y h
-    events Descriptor y h = a.events Descriptor y h
-    events _ y h = cc
-
--- a queue that is looked at
-pub looked-awaits : (p : Pool) (q : Obj) → MayCome Immediate (row_of p.rows q) → IsHandled (row_of p.rows q) (handler_of p.handlers q) → Awaits p → Awaits (look_at p q)
-looked-awaits p q comes ready a = each (is_some (next_of p.queues q))
-  where
-    each : (b : Bool) → Awaits (record p { soon = if b then scheduled p.soon q else p.soon })
-    each true = scheduled-awaits p q comes ready a
-    each false = a
-
-pub armed-awaits : (p : Pool) (x : Obj) (time number : ℕ) → MayCome Timer (row_of p.rows x) → IsHandled (row_of p.rows x) (handler_of p.handlers x) → Awaits p → Awaits (arm p x time number)
-armed-awaits p x time number comes ready a = record { events = events; handlers = a.handlers; distinct = a.distinct; watched = a.watched }
-  where
-    events : (w : What) (y : Obj) → waits w (arm p x time number) y ≡ true → MayCome w (row_of p.rows y) × IsHandled (row_of p.rows y) (handler_of p.handlers y)
-    events Timer y h = elim (armed-either p.times x time number y h) [
-      | inl l ↦ a.events Timer y l
-      | inr e ↦ subst (λ (z : Obj). MayCome Timer (row_of p.rows z) × IsHandled (row_of p.rows z) (handler_of p.handlers z)) e (comes, ready)
-    ]
-    events Immediate y h = a.events Immediate y h
-    events Descriptor y h = a.events Descriptor y h
-    events _ y h = cc
-
--- fewer objects are to come soon, or at a time
-fewer-awaits : (p q : Pool) → Awaits p → ((y : Obj) → waits Immediate q y ≡ true → waits Immediate p y ≡ true) → ((y : Obj) → waits Timer q y ≡ true → waits Timer p y ≡ true)
-    → q.rows ≡ p.rows → q.handlers ≡ p.handlers → q.ring ≡ p.ring → q.descriptors ≡ p.descriptors → Awaits q
-fewer-awaits p q a soon times rows handlers ring descriptors = same-awaits p q a fewer rows handlers ring descriptors
-  where
-    fewer : (w : What) (y : Obj) → waits w q y ≡ true → waits w p y ≡ true
-    fewer Immediate y h = soon y h
-    fewer Timer y h = times y h
-    fewer Descriptor y h = rw ring at h
-    fewer _ y h = cc
-
-pub unscheduled-awaits : (p : Pool) (x : Obj) → Awaits p → Awaits (unschedule p x)
-unscheduled-awaits p x a = fewer-awaits p (unschedule p x) a (λ y h. (unscheduled-other p.soon x y h).0) (λ y h. h) refl refl refl refl
-
-pub disarmed-awaits : (p : Pool) (x : Obj) → Awaits p → Awaits (disarm p x)
-disarmed-awaits p x a = fewer-awaits p (disarm p x) a (λ y h. h) (λ y h. (disarmed-other p.times x y h).0) refl refl refl refl
-
--- a change of what is kept of requests, or of the next number
-pub kept-awaits : (p q : Pool) → Awaits p → q.rows ≡ p.rows → q.handlers ≡ p.handlers → q.ring ≡ p.ring → q.descriptors ≡ p.descriptors → q.soon ≡ p.soon → q.times ≡ p.times → Awaits q
-kept-awaits p q a rows handlers ring descriptors soon times = fewer-awaits p q a (λ y h. rw soon at h) (λ y h. rw times at h) rows handlers ring descriptors
-
--- ---- an event watches a descriptor
-
--- the same wait otherwise, and who is in the rotation may come
-ring-awaits : (p : Pool) (ring : List Watch) → ((y : Obj) → is_watching ring y ≡ true → MayCome Descriptor (row_of p.rows y) × IsHandled (row_of p.rows y) (handler_of p.handlers y)) → AreDistinct ring
-    → ((fd : ℕ) → is_watched ring fd ≡ true → is_open p fd ≡ true) → Awaits p → Awaits (record p { ring = ring })
-ring-awaits p ring comes distinct still_open a = record { events = events; handlers = a.handlers; distinct = distinct; watched = still_open }
-  where
-    events : (w : What) (y : Obj) → waits w (record p { ring = ring }) y ≡ true → MayCome w (row_of p.rows y) × IsHandled (row_of p.rows y) (handler_of p.handlers y)
-    events Descriptor y h = comes y h
-    events Immediate y h = a.events Immediate y h
-    events Timer y h = a.events Timer y h
-    events _ y h = cc
-
-pub watching-awaits : (p : Pool) (x : Obj) (fd flags : ℕ) → MayCome Descriptor (row_of p.rows x) → IsHandled (row_of p.rows x) (handler_of p.handlers x) → is_watching p.ring x ≡ false → is_watched p.ring fd ≡ false
-    → is_open p fd ≡ true → Awaits p → Awaits (watch p x fd flags)
-watching-awaits p x fd flags comes ready new free still_open a =
-    ring-awaits p (watch p x fd flags).ring
-    (λ y h. elim (watched-watching p.ring x fd flags y h) [
-      | inl l ↦ a.events Descriptor y l
-      | inr e ↦ subst (λ (z : Obj). MayCome Descriptor (row_of p.rows z) × IsHandled (row_of p.rows z) (handler_of p.handlers z)) e (comes, ready)
-    ])
-    (watched-distinct p.ring x fd flags a.distinct new free)
-    (λ g h. elim (watched-watched p.ring x fd flags g h) [
-      | inl l ↦ a.watched g l
-      | inr e ↦ subst (λ (n : ℕ). is_open p n ≡ true) e still_open
-    ]) a
-
-pub rewatched-awaits : (p : Pool) (x : Obj) (change : Watch → Watch) → ((w : Watch) → (change w).object ≡ w.object) → ((w : Watch) → (change w).fd ≡ w.fd) → Awaits p → Awaits (rewatch p x change)
-rewatched-awaits p x change same_object same_fd a =
-    ring-awaits p (rewatch p x change).ring (λ y h. a.events Descriptor y (sym (rewatched-watching change p.ring x y same_object) ∙ h)) (rewatched-distinct change p.ring x same_object same_fd a.distinct)
-    (λ fd h. a.watched fd (sym (rewatched-watched change p.ring x fd same_fd) ∙ h)) a
-
-pub turned-awaits : (p : Pool) (x : Obj) → Awaits p → Awaits (turn_back p x)
-turned-awaits p x a =
-    ring-awaits p (turn_back p x).ring (λ y h. a.events Descriptor y (turned-watching p.ring x y h)) (turned-distinct p.ring x a.distinct) (λ fd h. a.watched fd (turned-watched p.ring x fd h)) a
-
--- ---- a descriptor is opened or closed
-
--- what is watched is among those that are open then
-shut-awaits : (p : Pool) (ds : Descriptors) → ((fd : ℕ) → is_watched p.ring fd ≡ true → is_open_in ds fd ≡ true) → Awaits p → Awaits (record p { descriptors = ds })
-shut-awaits p ds still_open a = record { events = events; handlers = a.handlers; distinct = a.distinct; watched = still_open }
-  where
-    events : (w : What) (y : Obj) → waits w (record p { descriptors = ds }) y ≡ true → MayCome w (row_of p.rows y) × IsHandled (row_of p.rows y) (handler_of p.handlers y)
-    events Descriptor y h = a.events Descriptor y h
-    events Immediate y h = a.events Immediate y h
-    events Timer y h = a.events Timer y h
-    events _ y h = cc
-
-pub opened-awaits : (p : Pool) (fd : ℕ) → Awaits p → Awaits (open_descriptor p fd)
-opened-awaits p fd a = shut-awaits p (open_descriptor p fd).descriptors (λ g h. opened-still p.descriptors fd g (a.watched g h)) a
-
--- one that nobody watches
-pub closed-awaits : (p : Pool) (fd : ℕ) → is_watched p.ring fd ≡ false → Awaits p → Awaits (close_descriptor p fd)
-closed-awaits p fd free a = shut-awaits p (close_descriptor p fd).descriptors still_open a
-  where
-    still_open : (g : ℕ) → is_watched p.ring g ≡ true → is_open (close_descriptor p fd) g ≡ true
-    still_open g h = by_test (nat_eq g fd)
-        (λ t. let none : is_watched p.ring g ≡ false = subst (λ (n : ℕ). is_watched p.ring n ≡ false) (sym (eqb-true g fd t)) free in let bad : true ≡ false = sym h ∙ none in cc)
-        (λ t. closed-other p.descriptors fd g t ∙ a.watched g h)

@@ -1,21 +1,16 @@
 -- Each step leaves what waits as it must be.
-use Rattle.std.proofs.Common.{◌≡◌, ℕ, List, [], ◌∷◌, Option, Some, None, Bool, true, false, nat_eq, nat_le, ◌<◌, arith, refl, sym, ◌∙◌, ap, subst, inl, inr}
-use Rattle.step_machine.specs.Machine.{Move as Do}
+use Rattle.std.proofs.Common.{◌≡◌, ℕ, List, [], ◌∷◌, Option, Some, None, Bool, true, false, nat_eq, nat_le, ◌<◌, arith, refl, sym, ◌∙◌, ap, subst}
 use Rattle.tree_specs.specs.declared.object.Obj.{Obj}
 use Rattle.tree_specs.specs.declared.object.Owner.{Owner}
 use Rattle.tree_specs.specs.declared.object.Owner.TheVariants.{Of}
 use Rattle.tree_specs.specs.declared.row.Row.{Row}
-use Rattle.tree_specs.specs.declared.row.Mark.{Mark}
-use Rattle.tree_specs.specs.declared.row.Mark.TheVariants.{Quiet, Asked, Busy, Doomed}
-use Rattle.tree_specs.specs.declared.event.Event.{Event}
+use Rattle.tree_specs.specs.declared.row.Mark.TheVariants.{Quiet, Busy}
 use Rattle.tree_specs.specs.declared.due.Due.{Due}
 use Rattle.tree_specs.specs.declared.handler.Handler.{Handler}
-use Rattle.tree_specs.specs.declared.queue.QueueEntry.{QueueEntry}
 use Rattle.tree_specs.specs.declared.moment.What.{What}
 use Rattle.tree_specs.specs.declared.moment.What.TheVariants.{Immediate, Timer, Descriptor}
-use Rattle.std.specs.Prelude.{◌+◌, not, is_some, codes}
-use Rattle.std.specs.Ordering.{nat_cmp, eq_by_cmp}
-use Rattle.tree_specs.specs.Words.Objects.{same}
+use Rattle.std.specs.Prelude.{◌+◌, is_some, codes}
+use Rattle.tree_specs.specs.Words.Objects.{first_context, same}
 use Rattle.tree_specs.specs.declared.kind.Kind.{Kind}
 use Rattle.tree_specs.specs.declared.kind.Kind.TheVariants as kind
 use Rattle.tree_specs.specs.declared.call.Call.TheVariants as call
@@ -27,201 +22,43 @@ use Rattle.tree_specs.specs.declared.frame.Errand.TheVariants.{Receive}
 use Rattle.tree_specs.specs.declared.frame.RequestFrame.{RequestFrame}
 use Rattle.tree_specs.specs.declared.frame.RequestFrame.TheVariants as request
 use Rattle.tree_specs.specs.Events.Requests.{note_of, is_noted, is_unreceived, new_note, cleanup_in, cancel_in, cleaned, not_deferring}
-use Rattle.tree_specs.specs.Events.Queues.{Queues, Head, has_queue, entry_of, has_entries, without_entry, head_of, next_of, with_entry, new_entry}
-use Rattle.tree_specs.specs.Calls.Refusals.{is_doomed_mark, is_doomed, is_request, is_request_row, is_queue, is_queue_row, is_entry}
+use Rattle.tree_specs.specs.Events.Queues.{Head, has_queue, head_of, next_of, with_entry, new_entry}
+use Rattle.tree_specs.specs.Calls.Refusals.{is_doomed, is_request, is_request_row, is_queue_row}
 use Rattle.tree_specs.specs.Invariants.Noted.{IsCalm, NotesHold, Noted}
-use Rattle.tree_specs.specs.declared.watch.Watch.{Watch}
 use Rattle.tree_specs.specs.declared.notice.Notice.{Notice}
 use Rattle.tree_specs.specs.declared.question.Ask.{Ask}
 use Rattle.tree_specs.specs.declared.question.Ask.TheVariants as ask
 use Rattle.tree_specs.specs.declared.frame.Frame.{Frame}
 use Rattle.tree_specs.specs.declared.frame.Frame.TheVariants as frame
 use Rattle.tree_specs.specs.declared.frame.CallFrame.TheVariants.{Asking, Doing}
-use Rattle.tree_specs.specs.declared.frame.FreeFrame.{FreeFrame}
-use Rattle.tree_specs.specs.declared.frame.FreeFrame.TheVariants.{Unlinking, Releasing, Giving, Beginning, Judged, Prepared, Leaving, Looping, AfterChild}
 use Rattle.tree_specs.specs.declared.frame.TurnFrame.{TurnFrame}
 use Rattle.tree_specs.specs.declared.frame.OutsideFrame.{OutsideFrame}
 use Rattle.tree_specs.specs.declared.frame.OutsideFrame.TheVariants.{Opening}
-use Rattle.tree_specs.specs.declared.frame.TurnFrame.TheVariants.{Taking, Timed, Starting, Handled}
-use Rattle.tree_specs.specs.declared.frame.Purpose.{Purpose}
-use Rattle.tree_specs.specs.declared.frame.Purpose.TheVariants.{Removal, Emptying}
-use Rattle.tree_specs.specs.declared.free_step.FreeReply.{FreeReply}
-use Rattle.tree_specs.specs.declared.free_step.FreeReply.TheVariants.{Ok}
-use Rattle.tree_specs.specs.Tree.Pool.{Pool, row_of, passes, add, note, add_request, add_queue, add_entry, run_queue, trigger, schedule, unschedule, disarm, renote, finish, remove, target_at, newest_ref_of, is_below, owner_of, is_inside, first_kid, left_row, marked_row, hooked_row}
-use Rattle.tree_specs.specs.Tree.Targets.{newest_ref}
-use Rattle.tree_specs.specs.Tree.Heirs.{heir}
-use Rattle.tree_specs.specs.Tree.Forest.{Distinct}
+use Rattle.tree_specs.specs.declared.frame.TurnFrame.TheVariants.{Closing, Taking, Timed, Starting, Handled}
+use Rattle.tree_specs.specs.Tree.Pool.{enter, exit, soon_here, times_here, is_usable, Pool, row_of, add, note, add_request, add_queue, add_entry, run_queue, trigger, schedule, unschedule, disarm, renote, finish}
 use Rattle.tree_specs.specs.declared.call.Call.{Call}
-use Rattle.tree_specs.specs.Calls.Plans.{Change, Plan, planned, changed_by}
-use Rattle.tree_specs.specs.Calls.Plans.Change.{Nothing, Edit, Add, Place, Handle, Schedule, Unschedule, Arm, Watches, Rewatch, Close, TakeNumber, AddRequest, Renotes, Runs, AddQueue, AddEntry, LooksAt, Then}
+use Rattle.tree_specs.specs.declared.coming.Coming.{Coming}
+use Rattle.tree_specs.specs.Calls.Plans.{Change, Plan, planned, changed_by, planned_at}
+use Rattle.tree_specs.specs.Calls.Plans.Change.{Enter, Nothing, Edit, Add, Place, Handle, Schedule, Unschedule, Arm, Watches, Rewatch, Close, TakeNumber, AddRequest, Renotes, Runs, AddQueue, AddEntry, LooksAt, Then}
 use Rattle.tree_specs.specs.Calls.Plans.Plan.{Does, Frees, Unlinks, Turns, Works}
 use Rattle.tree_specs.specs.Events.Pending.{first}
 use Rattle.tree_specs.specs.Events.Handlers.{handler_of}
 use Rattle.tree_specs.specs.Events.Rotation.{is_watching}
 use Rattle.tree_specs.specs.Events.Coming.{handler_for, rotated, goes_after}
-use Rattle.tree_specs.specs.Machine.Profiles.{InLoop}
-use Rattle.tree_specs.specs.Machine.FreeTable.{FreeMove, begin_step, refs_step, unlink_step, release_step, judge_step, last_step, child_step, loop_step, hand_on_step, tried_step, free_step}
-use Rattle.tree_specs.specs.Machine.Table.{event_of, announced, lifted, notice_step, plan_step, turning_step, due_step, taking_step, timed_step, early_step, due_now, starting_step, handled_step, turn_step, outside_step, cancelling_step, cleaning_step, release_object, cleaned_step, callback_step, notifying_step, vacating_step, triggering_step, request_step, step}
-use Rattle.tree_specs.specs.Invariants.Sound.{ValidAt, phases, claims, Rests, Sound}
-use Rattle.tree_specs.specs.Invariants.Queued.{IsEntryRow, AreQueued, QueuesHold}
+use Rattle.tree_specs.specs.Machine.FreeTable.{free_step}
+use Rattle.tree_specs.specs.Machine.Table.{closing_step, notice_step, plan_step, turning_step, due_step, taking_step, timed_step, early_step, due_now, starting_step, handled_step, turn_step, outside_step, cancelling_step, cleaning_step, release_object, cleaned_step, callback_step, deferred_step, notifying_step, vacating_step, triggering_step, request_step, step}
+use Rattle.tree_specs.specs.Invariants.Sound.{ValidAt, phases, Rests, Sound}
+use Rattle.tree_specs.specs.Invariants.Queued.{QueuesHold}
 use Rattle.tree_specs.specs.Invariants.Awaiting.{waits_as, waits_as_row, is_event, is_event_row, MayCome, IsHandled, Awaits, pool_after}
 use Rattle.tree_specs.proofs.Tree.Numbered.{by_test, same-false}
-use Rattle.tree_specs.proofs.Tree.Referring.{newest-refers, newest-of-refers}
-use Rattle.tree_specs.proofs.Invariants.Changes.{dying-row, claim-here, heir-placed}
-use Rattle.tree_specs.proofs.Calls.Plans.{May, may-planned}
+use Rattle.tree_specs.proofs.Calls.Plans.{May, may-planned-at}
 use Rattle.tree_specs.proofs.Calls.Changes.{MayDo, change-sound}
-use Rattle.tree_specs.proofs.Calls.NewEvents.{AreNew, OnlyNew, quiet-spared, new-events}
-use Rattle.tree_specs.proofs.Events.QueueLaws.{has-without}
-use Rattle.tree_specs.proofs.Invariants.Queues.{find-waiting, next-head}
-use Rattle.tree_specs.proofs.Invariants.FreeQueues.{drained-spared}
-use Rattle.tree_specs.proofs.Events.Awaiting.{MayLook, looked-awaits, changed-awaits, marked-awaits, placed-awaits, gone-awaits, kept-awaits, removed-awaits, added-awaits, handled-awaits, scheduled-awaits, armed-awaits, unscheduled-awaits, disarmed-awaits, watching-awaits, rewatched-awaits, turned-awaits, opened-awaits, closed-awaits, reference-stays}
-
--- what may wait so, and isn't being freed
-comes : (w : What) (o : Option Row) → waits_as_row w o ≡ true → passes (λ r. is_doomed_mark r.mark) o ≡ false → MayCome w o
-comes w None t d = cc
-comes w (Some r) t d = (t, d)
-
--- ---- frees
-
--- an object that is removed is dying
-removed : (x : Obj) (h : ℕ) (fs : List Frame) (p : Pool) → Sound (frame.Free (Looping x (Removal h))) fs p → Awaits p → Awaits (remove p x)
-removed x h fs p s a =
-    let row = dying-row (row_of p.rows x) (claims x fs) (claim-here x InLoop (claims x fs) (row_of p.rows x) (s.open_frees x)) in
-    removed-awaits p x (λ w c. (let c' : MayCome w (Some row.0) = rw row.1 at c in let bad : true ≡ false = rw row.3 at c'.1 in cc)) a
-
-newest : (p : Pool) (x r : Obj) → Distinct p.rows → newest_ref p.rows x ≡ Some r → Awaits p → Awaits (remove p r)
-newest p x r d e a = let w = newest-refers p.rows x r d e in removed-awaits p r (reference-stays p r x (rw w.1 w.2)) a
-
-beginning : (x : Obj) (fs : List Frame) (p : Pool) → Sound (frame.Free (Beginning x)) fs p → AreQueued p → Awaits p → Awaits (pool_after (refs_step x (newest_ref p.rows x) p))
-beginning x fs p s queued a = each (newest_ref p.rows x) refl
-  where
-    -- an event whose handler runs is no entry
-    busy : (r : Row) → row_of p.rows x ≡ Some r → r.mark ≡ Busy → MayLook p x (entry_of p.queues x)
-    busy r e m = entries (entry_of p.queues x) refl
-      where
-        entries : (o : Option QueueEntry) → entry_of p.queues x ≡ o → MayLook p x o
-        entries None is = tt
-        entries (Some w) is = let i = (find-waiting p p.queues.entries x w queued is).entry in let i' : IsEntryRow w.request (Some r) = rw e at i in let bad : Busy ≡ Quiet = sym m ∙ i'.1 in cc
-
-    marks : (r : Row) → row_of p.rows x ≡ Some r → (m : Mark) → r.mark ≡ m → Awaits (pool_after (begin_step x (Some r) p))
-    marks r e Quiet m = rw m (by_test (is_request r.kind)
-        (λ u. rw u (marked-awaits Asked p x refl a))
-        (λ u. by_test (is_queue r.kind)
-        (λ v. rw (u, v) (marked-awaits Asked p x refl a))
-        (λ v. by_test (nat_eq r.hook 0) (λ t. rw (u, v, t) a) (λ t. rw (u, v, t) (marked-awaits Asked p x refl a)))))
-    marks r e Busy m = rw m (gone-awaits (marked_row Doomed) p x (λ q. refl) (λ q. refl) (busy r e m) a)
-    marks r e Asked m = rw m a
-    marks r e _ m = rw m a
-
-    row : (o : Option Row) → row_of p.rows x ≡ o → Awaits (pool_after (begin_step x o p))
-    row None e = a
-    row (Some r) e = marks r e r.mark refl
-
-    each : (n : Option Obj) → newest_ref p.rows x ≡ n → Awaits (pool_after (refs_step x n p))
-    each None e = row (row_of p.rows x) refl
-    each (Some r) e = by_test (is_inside p.rows (Of r) (Of x)) (λ t. rw t (newest p x r s.forest.distinct e a)) (λ t. rw t (newest p x r s.forest.distinct e a))
-
-releasing : (x : Obj) (fs : List Frame) (p : Pool) → Sound (frame.Free (Releasing x)) fs p → Awaits p → Awaits (pool_after (release_step x (newest_ref p.rows x) p))
-releasing x fs p s a = each (newest_ref p.rows x) refl
-  where
-    each : (n : Option Obj) → newest_ref p.rows x ≡ n → Awaits (pool_after (release_step x n p))
-    each None e = a
-    each (Some r) e = by_test (is_inside p.rows (Of r) (Of x)) (λ t. rw t (newest p x r s.forest.distinct e a)) (λ t. rw t (newest p x r s.forest.distinct e a))
-
-unlinking : (o : Owner) (x : Obj) (fs : List Frame) (p : Pool) → Sound (frame.Free (Unlinking o x)) fs p → Awaits p → Awaits (pool_after (unlink_step x (newest_ref_of p.rows o x) p))
-unlinking o x fs p s a = each (newest_ref_of p.rows o x) refl
-  where
-    each : (n : Option Obj) → newest_ref_of p.rows o x ≡ n → Awaits (pool_after (unlink_step x n p))
-    each None e = a
-    each (Some r) e = let w = newest-of-refers p.rows o x r s.forest.distinct e in removed-awaits p r (reference-stays p r x (rw w.1 w.2)) a
-
--- a queue that has entries, of which one leaves, may come soon
-leaving : (x : Obj) (h : ℕ) (fs : List Frame) (p : Pool) → Sound (frame.Free (Leaving x h)) fs p → QueuesHold (frame.Free (Leaving x h) ∷ fs) p → MayLook p x (entry_of p.queues x)
-leaving x h fs p s hold = each (entry_of p.queues x) refl
-  where
-    kinds : (k : Kind) → is_queue k ≡ true → (waits_as Immediate k ≡ true) × (is_event k ≡ false) × (is_entry k ≡ false)
-    kinds kind.Queue t = (refl, refl, refl)
-    kinds _ t = cc
-
-    rows : (o : Option Row) → is_queue_row o ≡ true → (waits_as_row Immediate o ≡ true) × (is_event_row o ≡ false) × ((z : Obj) → IsEntryRow z o → ⊥)
-    rows None t = cc
-    rows (Some r) t = let k = kinds r.kind t in (k.0, k.1, λ z i. (let bad : true ≡ false = sym i.0 ∙ k.2 in cc))
-
-    spared : (q : Obj) → has_entries p.queues q ≡ true → is_doomed p q ≡ false
-    spared q t = elim (hold.idle q t) [
-      | inl quiet ↦ quiet-spared (row_of p.rows q) quiet
-      | inr d ↦ drained-spared (frame.Free (Leaving x h)) fs p q s d
-    ]
-
-    runs_on : (qs : Queues) (q : Obj) → is_some (next_of qs q) ≡ true → has_entries qs q ≡ true
-    runs_on qs q t = some (next_of qs q) refl t
-      where
-        some : (o : Option Head) → next_of qs q ≡ o → is_some o ≡ true → has_entries qs q ≡ true
-        some None e t = cc
-        some (Some g) e t = ap is_some (next-head qs q g e)
-
-    each : (o : Option QueueEntry) → entry_of p.queues x ≡ o → MayLook p x o
-    each None e = tt
-    each (Some w) e = λ t.
-        let i = find-waiting p p.queues.entries x w hold.waiting e in
-        let r = rows (row_of p.rows w.queue) i.queue in
-        let had = has-without (λ z. not (eq_by_cmp nat_cmp x.0 z.0)) p.queues.entries w.queue (runs_on (without_entry p.queues x) w.queue t) in
-        (comes Immediate (row_of p.rows w.queue) r.0 (spared w.queue had), r.1, λ is. r.2 w.request (subst (λ (z : Obj). IsEntryRow w.request (row_of p.rows z)) is i.entry))
-
-judged : (x : Obj) (h v : ℕ) (p : Pool) → Awaits p → Awaits (pool_after (judge_step x h v p))
-judged x h v p a = by_test (nat_eq v 0)
-    (λ t. rw t (changed-awaits (hooked_row 0) p x (record { serial = λ r. refl; kind = λ r. refl; mark = λ r l. l }) a))
-    (λ t. rw t (marked-awaits Quiet p x refl a))
-
-looping : (x : Obj) (purpose : Purpose) (fs : List Frame) (p : Pool) → Sound (frame.Free (Looping x purpose)) fs p → Awaits p → Awaits (pool_after (loop_step x purpose (first_kid p.rows (Of x)) p))
-looping x purpose fs p s a = each (first_kid p.rows (Of x))
-  where
-    last : (purpose : Purpose) → Sound (frame.Free (Looping x purpose)) fs p → Awaits (pool_after (last_step x purpose p))
-    last (Removal h) s = removed x h fs p s a
-    last Emptying s = a
-
-    child : (c : Obj) (o : Option Obj) → target_at p.rows c ≡ o → Awaits (pool_after (child_step x c purpose o p))
-    child c None e = a
-    child c (Some t) e = removed-awaits p c (reference-stays p c t e) a
-
-    each : (o : Option Obj) → Awaits (pool_after (loop_step x purpose o p))
-    each None = last purpose s
-    each (Some c) = child c (target_at p.rows c) refl
-
-tried : (x c : Obj) (noted : Option Owner) (purpose : Purpose) (b : FreeReply) (fs : List Frame) (p : Pool) → Sound (frame.Free (AfterChild x c noted purpose b)) fs p → Awaits p
-    → Awaits (pool_after (tried_step x c noted purpose b p))
-tried x c noted purpose b fs p s a = each b
-  where
-    handed : Awaits (pool_after (hand_on_step x c noted purpose p))
-    handed = by_test (is_below (owner_of p.rows c) (Of x)) (λ t. rw t (placed-awaits p (heir p.rows x c noted) c (heir-placed x c noted _ fs p s t) a)) (λ t. rw t a)
-
-    each : (b : FreeReply) → Awaits (pool_after (tried_step x c noted purpose b p))
-    each Ok = a
-    each _ = handed
-
-pub free-awaits : (f : FreeFrame) (fs : List Frame) (p : Pool) → Sound (frame.Free f) fs p → QueuesHold (frame.Free f ∷ fs) p → Awaits p → Awaits (pool_after (free_step f p))
-free-awaits (Unlinking o x) fs p s q a = unlinking o x fs p s a
-free-awaits (Releasing x) fs p s q a = releasing x fs p s a
-free-awaits (Giving x o) fs p s q a = placed-awaits p o x s.rests a
-free-awaits (Beginning x) fs p s q a = beginning x fs p s q.waiting a
-free-awaits (Judged x h v) fs p s q a = judged x h v p a
-free-awaits (Prepared x) fs p s q a = marked-awaits Quiet p x refl a
-free-awaits (Leaving x h) fs p s q a = gone-awaits left_row p x (λ r. refl) (λ r. refl) (leaving x h fs p s q) a
-free-awaits (Looping x purpose) fs p s q a = looping x purpose fs p s a
-free-awaits (AfterChild x c noted purpose b) fs p s q a = tried x c noted purpose b fs p s a
-free-awaits _ fs p s q a = a
-
--- among the host's works it leaves the same
-lifted-awaits : (ring : List Watch) (m : FreeMove) → Awaits (pool_after m) → Awaits (pool_after (lifted ring m))
-lifted-awaits ring (Do.Done b p) a = a
-lifted-awaits ring (Do.Go f p) a = a
-lifted-awaits ring (Do.Emit e f p) a = each (event_of ring e)
-  where
-    each : (o : Option Event) → Awaits (pool_after (announced o f p))
-    each None = a
-    each (Some e) = a
-lifted-awaits ring (Do.Wait q f p) a = a
-lifted-awaits ring (Do.Call g f p) a = a
+use Rattle.tree_specs.proofs.Calls.NewEvents.{request-no-context, AreNew, OnlyNew, quiet-spared, new-events}
+use Rattle.tree_specs.proofs.Events.Awaiting.{changed-awaits, marked-awaits, placed-awaits, added-awaits}
+use Rattle.tree_specs.proofs.Events.AwaitingLists.{looked-awaits, kept-awaits, handled-awaits, scheduled-awaits, armed-awaits, unscheduled-awaits, disarmed-awaits, watching-awaits, rewatched-awaits, turned-awaits, opened-awaits, closed-awaits}
+use Rattle.tree_specs.proofs.Events.LiveContexts.{usable-context}
+use Rattle.tree_specs.proofs.Events.AwaitingFrees.{comes, free-awaits, lifted-awaits}
+use Rattle.tree_specs.proofs.Calls.Checks.{planned-at-by}
 
 -- ---- calls
 
@@ -266,17 +103,26 @@ entered-awaits p q x trigger nobody queue may ready a =
     looked-awaits b q (rw other may) (rw other ready)
     (kept-awaits (add p kind.Entry (Of x) 0 (codes "entry")) b (added-awaits p kind.Entry (Of x) 0 (codes "entry") nobody a) refl refl refl refl refl refl)
 
+-- a turn of a context begins
+entered-context : (p : Pool) (c : Obj) → Awaits p → Awaits (enter p c)
+entered-context p c a = by_test (same c first_context)
+    (λ t. rw t a)
+    (λ t. rw t (marked-awaits Busy (record p { turning = Some c }) c refl (kept-awaits p (record p { turning = Some c }) a refl refl refl refl refl refl)))
+
+exited-context : (p : Pool) (c : Obj) → Awaits p → Awaits (exit p c)
+exited-context p c a = marked-awaits Quiet (record p { turning = None }) c refl (kept-awaits p (record p { turning = None }) a refl refl refl refl refl refl)
+
 change-awaits : (f : Frame) (fs : List Frame) (p : Pool) (c : Change) → Sound f fs p → ((q : Pool) → Rests f fs q) → MayDo p c → AreNew p c → Awaits p → Awaits (changed_by c p)
 change-awaits f fs p Nothing s calm may new a = a
 change-awaits f fs p (Edit x g) s calm may new a = changed-awaits g p x (record { serial = may.place.serial; kind = may.place.kind; mark = λ r l. rw (may.mark r) l }) a
 change-awaits f fs p (Add kind o size name) s calm may new a = added-awaits p kind o size name (fresh p.next _ (s.valid (record { 0 = p.next }))) a
 change-awaits f fs p (Place o x) s calm may new a = placed-awaits p o x may a
 change-awaits f fs p (Handle x handler) s calm may new a = handled-awaits p x handler may a
-change-awaits f fs p (Schedule x) s calm may new a = scheduled-awaits p x (comes Immediate (row_of p.rows x) may.comes new) may.ready a
+change-awaits f fs p (Schedule x c) s calm may new a = scheduled-awaits p x c (comes Immediate (row_of p.rows x) may.comes new.0) may.ready new.1 a
 change-awaits f fs p (Unschedule x) s calm may new a = unscheduled-awaits p x a
-change-awaits f fs p (Arm x time number) s calm may new a = armed-awaits p x time number (comes Timer (row_of p.rows x) may.comes new) may.ready a
-change-awaits f fs p (Watches x fd flags) s calm may new a = watching-awaits p x fd flags may.comes (λ i. may.ready) new may.free may.open_one a
-change-awaits f fs p (Rewatch x g) s calm may new a = rewatched-awaits p x g may.object may.fd a
+change-awaits f fs p (Arm x time number c) s calm may new a = armed-awaits p x time number c (comes Timer (row_of p.rows x) may.comes new.0) may.ready new.1 a
+change-awaits f fs p (Watches x fd flags c) s calm may new a = watching-awaits p x fd flags c may.comes (λ i. may.ready) new.0 may.free may.open_one new.1 a
+change-awaits f fs p (Rewatch x g) s calm may new a = rewatched-awaits p x g may.object may.fd may.context a
 change-awaits f fs p (Close fd) s calm may new a = closed-awaits p fd may a
 change-awaits f fs p (AddRequest o size name) s calm may new a = requested-awaits p o size name s.valid a
 change-awaits f fs p TakeNumber s calm may new a = kept-awaits p (changed_by TakeNumber p) a refl refl refl refl refl refl
@@ -286,13 +132,14 @@ change-awaits f fs p (AddQueue o name) s calm may new a =
     kept-awaits (add p kind.Queue o 0 name) (add_queue p o name) (added-awaits p kind.Queue o 0 name (fresh p.next _ (s.valid (record { 0 = p.next }))) a) refl refl refl refl refl refl
 change-awaits f fs p (AddEntry q x trigger) s calm may new a = entered-awaits p q x trigger may.3 may.2 (comes Immediate (row_of p.rows q) may.1.comes new) may.1.ready a
 change-awaits f fs p (LooksAt q) s calm may new a = looked-awaits p q (comes Immediate (row_of p.rows q) may.comes new) may.ready a
+change-awaits f fs p (Enter c) s calm may new a = entered-context p c a
 change-awaits f fs p (Then c d) s calm may new a =
     let t = change-sound f f fs p c s may.0 (λ y. refl) calm (calm (changed_by c p)) in
     change-awaits f fs (changed_by c p) d t calm may.1 new.1 (change-awaits f fs p c s calm may.0 new.0 a)
 
-turning-awaits : (q : Ask) (p : Pool) → Awaits p → Awaits (pool_after (turning_step q p))
-turning-awaits ask.Quiet p a = a
-turning-awaits _ p a = a
+turning-awaits : (q : Ask) (x : Obj) (p : Pool) → Awaits p → Awaits (pool_after (turning_step q x p))
+turning-awaits ask.Quiet x p a = entered-context p x a
+turning-awaits _ x p a = a
 
 planned-awaits : (q : Ask) (c : Call) (fs : List Frame) (p : Pool) → Sound (frame.Call (Doing q c)) fs p → (plan : Plan) → May p plan → OnlyNew p plan → Awaits p → Awaits (pool_after (plan_step q plan p))
 planned-awaits q c fs p s (Does change notice r) may new a = each notice
@@ -300,7 +147,7 @@ planned-awaits q c fs p s (Does change notice r) may new a = each notice
     each : (notice : Option Notice) → Awaits (pool_after (notice_step notice q r (changed_by change p)))
     each None = change-awaits (frame.Call (Doing q c)) fs p change s (λ q'. tt) may.0 new a
     each (Some n) = change-awaits (frame.Call (Doing q c)) fs p change s (λ q'. tt) may.0 new a
-planned-awaits q c fs p s Turns may new a = turning-awaits q p a
+planned-awaits q c fs p s (Turns x) may new a = turning-awaits q x p a
 planned-awaits q c fs p s (Works change errand x) may new a = change-awaits (frame.Call (Doing q c)) fs p change s (λ q'. tt) may.0 new a
 planned-awaits q c fs p s _ may new a = a
 
@@ -311,20 +158,22 @@ has-come : (x : Obj) (now : ℕ) (p : Pool) → Awaits p → Awaits (pool_after 
 has-come x now p a = by_test (is_noted p.requests x) (λ t. rw t (disarmed-awaits p x a)) (λ t. rw t (disarmed-awaits p x a))
 
 taking : (p : Pool) → Awaits p → Awaits (pool_after (turn_step Taking p))
-taking p a = each (first p.soon)
+taking p a = each (first (soon_here p))
   where
     due : (o : Option Due) → Awaits (pool_after (due_step o p))
     due None = a
     due (Some d) = by_test (nat_eq d.time 0) (λ t. rw t (has-come d.object 0 p a)) (λ t. rw t a)
 
-    each : (o : Option Obj) → Awaits (pool_after (taking_step o p))
-    each None = due (first p.times)
-    each (Some x) = by_test (is_noted p.requests x)
+    each : (o : Option Coming) → Awaits (pool_after (taking_step o p))
+    each None = due (first (times_here p))
+    each (Some y) =
+        let x : Obj = y.object in
+        by_test (is_noted p.requests x)
         (λ t. rw t (unscheduled-awaits p x a))
         (λ t. by_test (has_queue p.queues x) (λ u. rw (t, u) (unscheduled-awaits p x a)) (λ u. rw (t, u) (unscheduled-awaits p x a)))
 
 timed : (again : Bool) (now : ℕ) (p : Pool) → Awaits p → Awaits (pool_after (turn_step (Timed again now) p))
-timed again now p a = each (first p.times)
+timed again now p a = each (first (times_here p))
   where
     early : (again : Bool) (d : Due) → Awaits (pool_after (early_step again d now p))
     early true d = a
@@ -352,6 +201,11 @@ turn-awaits (Handled w x) p a = each (goes_after p w x)
     each : (b : Bool) → Awaits (pool_after (handled_step x b p))
     each true = marked-awaits Quiet p x refl a
     each false = marked-awaits Quiet p x refl a
+turn-awaits (Closing v) p a = each p.turning
+  where
+    each : (o : Option Obj) → Awaits (pool_after (closing_step v o p))
+    each None = a
+    each (Some c) = by_test (is_doomed p c) (λ t. rw t (exited-context p c a)) (λ t. rw t (exited-context p c a))
 turn-awaits _ p a = a
 
 -- ---- questions to the outside
@@ -388,7 +242,7 @@ module _ (fs : List Frame) (p : Pool) (a : Awaits p) where
   -- a request with which nothing goes on comes soon
   notifying : (x : Obj) (errand : Errand) → phases (row_of p.rows x) ≡ [] → NotesHold None p → (o : Option Note) → note_of p.requests x ≡ o → Awaits (pool_after (notifying_step x errand o p))
   notifying x errand quiet holds None e = a
-  notifying x errand quiet holds (Some n) e = by_test n.deferred (λ t. rw t comes-soon) (λ t. rw t (back n.callback))
+  notifying x errand quiet holds (Some n) e = deferred n.deferred
     where
       q : Pool
       q = renote p x not_deferring
@@ -404,15 +258,22 @@ module _ (fs : List Frame) (p : Pool) (a : Awaits p) where
       waits None t = cc
       waits (Some r) t = kinds r.kind t
 
-      comes-soon : Awaits (schedule q x)
-      comes-soon =
+      kept : Awaits q
+      kept = kept-awaits p q a refl refl refl refl refl refl
+
+      comes-soon : (c : Obj) → is_usable p.rows c ≡ true → Awaits (schedule q x c)
+      comes-soon c t =
           let w = waits (row_of p.rows x) row in
-          scheduled-awaits q x (comes Immediate (row_of p.rows x) w.0 (quiet-spared (row_of p.rows x) quiet)) (λ i. let bad : true ≡ false = sym i ∙ w.1 in cc)
-          (kept-awaits p q a refl refl refl refl refl refl)
+          scheduled-awaits q x c (comes Immediate (row_of p.rows x) w.0 (quiet-spared (row_of p.rows x) (request-no-context (row_of p.rows x) row) quiet)) (λ i. let bad : true ≡ false = sym i ∙ w.1 in cc)
+          (usable-context p.rows c t) kept
 
       back : (o : Option Handler) → Awaits (pool_after (callback_step x errand o p))
       back None = a
       back (Some handler) = a
+
+      deferred : (o : Option Obj) → Awaits (pool_after (deferred_step x errand o n.callback p))
+      deferred None = back n.callback
+      deferred (Some c) = by_test (is_usable p.rows c) (λ t. rw t (comes-soon c t)) (λ t. rw t kept)
 
 -- a queue is emptied, or triggers its first entry
 module _ (p : Pool) (a : Awaits p) where
@@ -441,7 +302,7 @@ request-awaits _ fs p sound n c a = a
 
 -- every step leaves what waits as it must be
 pub step-awaits : (f : Frame) (fs : List Frame) (p : Pool) → Sound f fs p → Noted f p → QueuesHold (f ∷ fs) p → IsCalm f fs → Awaits p → Awaits (pool_after (step f p))
-step-awaits (frame.Call (Doing q c)) fs p s n h c' a = planned-awaits q c fs p s (planned p c) (may-planned (frame.Call (Doing q c)) fs p s c) (new-events p (unwatching p s.valid a) n.pool c) a
+step-awaits (frame.Call (Doing q c)) fs p s n h c' a = planned-awaits q c fs p s (planned_at q p c) (may-planned-at (frame.Call (Doing q c)) fs p s q c) (planned-at-by (OnlyNew p) q p c (new-events p (unwatching p s.valid a) (fresh p.next _ (s.valid (record { 0 = p.next }))) n.pool c) (λ t. tt)) a
 step-awaits (frame.Call (Asking q)) fs p s n h c a = a
 step-awaits (frame.Call _) fs p s n h c a = a
 step-awaits (frame.Free f) fs p s n h c a = lifted-awaits p.ring (free_step f p) (free-awaits f fs p s h a)

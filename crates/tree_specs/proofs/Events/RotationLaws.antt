@@ -2,14 +2,15 @@
 -- descriptor.
 use Rattle.std.proofs.Common.{◌≡◌, ◌≢◌, ℕ, nat_eq, Bool, true, false, List, [], ◌∷◌, ◌++◌, Option, Some, None, is_some, refl, sym, ◌∙◌, ap, subst, ◌⊎◌, inl, inr}
 use Rattle.std.proofs.lemmas.Bool.{eqb-true, eq-eqb}
-use Rattle.std.specs.List.{find}
+use Rattle.std.specs.List.{find, filter}
 use Rattle.std.specs.Option.{option_map}
+use Rattle.std.specs.Prelude.{not, map}
 use Rattle.tree_specs.specs.declared.object.Obj.{Obj}
 use Rattle.tree_specs.specs.declared.watch.Watch.{Watch}
-use Rattle.tree_specs.specs.Words.Objects.{same}
-use Rattle.tree_specs.specs.Events.Rotation.{watch_of, is_watching, is_watched, closed_by, closes_with, watched, unwatched, rewatched, behind_all, turned_back}
+use Rattle.tree_specs.specs.Words.Objects.{same, is_same}
+use Rattle.tree_specs.specs.Events.Rotation.{watch_of, is_watching, is_watched, closed_by, closes_with, watched, unwatched, rewatched, behind_all, turned_back, lost, ring_in, ring_without}
 use Rattle.tree_specs.specs.Invariants.Awaiting.{AreDistinct}
-use Rattle.tree_specs.proofs.Tree.Numbered.{by_test, same-true}
+use Rattle.tree_specs.proofs.Tree.Numbered.{same-equal, by_test, same-true}
 
 -- ---- one that passes a test
 
@@ -63,14 +64,14 @@ unwatched-other ws x y h = (unwatched-watching ws x y h, λ e. gone ws (subst (�
     gone [] h = cc
     gone (w ∷ ws) h = by_test (same w.object x) (λ t. gone ws (rw t at h)) (λ t. gone ws (rw (t, t) at h))
 
-pub watched-watching : (ws : List Watch) (x : Obj) (fd flags : ℕ) (y : Obj) → is_watching (watched ws x fd flags) y ≡ true → (is_watching ws y ≡ true) ⊎ (x ≡ y)
-watched-watching ws x fd flags y h = elim (found-pushed (of_object y) ws _ h) [
+pub watched-watching : (ws : List Watch) (x : Obj) (fd flags : ℕ) (c y : Obj) → is_watching (watched ws x fd flags c) y ≡ true → (is_watching ws y ≡ true) ⊎ (x ≡ y)
+watched-watching ws x fd flags c y h = elim (found-pushed (of_object y) ws _ h) [
   | inl l ↦ inl l
   | inr e ↦ inr (same-true x y e)
 ]
 
-pub watched-watched : (ws : List Watch) (x : Obj) (fd flags g : ℕ) → is_watched (watched ws x fd flags) g ≡ true → (is_watched ws g ≡ true) ⊎ (fd ≡ g)
-watched-watched ws x fd flags g h = elim (found-pushed (of_descriptor g) ws _ (sym (watched-found (watched ws x fd flags) g) ∙ h)) [
+pub watched-watched : (ws : List Watch) (x : Obj) (fd flags : ℕ) (c : Obj) (g : ℕ) → is_watched (watched ws x fd flags c) g ≡ true → (is_watched ws g ≡ true) ⊎ (fd ≡ g)
+watched-watched ws x fd flags c g h = elim (found-pushed (of_descriptor g) ws _ (sym (watched-found (watched ws x fd flags c) g) ∙ h)) [
   | inl l ↦ inl (watched-found ws g ∙ l)
   | inr e ↦ inr (eqb-true fd g e)
 ]
@@ -156,8 +157,8 @@ pushed-distinct (v ∷ ws) w d a b =
       pushed-distinct ws w d.2 a'.1 (watched-found ws w.fd ∙ b'.1),
     )
 
-pub watched-distinct : (ws : List Watch) (x : Obj) (fd flags : ℕ) → AreDistinct ws → is_watching ws x ≡ false → is_watched ws fd ≡ false → AreDistinct (watched ws x fd flags)
-watched-distinct ws x fd flags d a b = pushed-distinct ws (record { object = x; fd = fd; flags = flags; closes = false }) d a b
+pub watched-distinct : (ws : List Watch) (x : Obj) (fd flags : ℕ) (c : Obj) → AreDistinct ws → is_watching ws x ≡ false → is_watched ws fd ≡ false → AreDistinct (watched ws x fd flags c)
+watched-distinct ws x fd flags c d a b = pushed-distinct ws (record { object = x; fd = fd; flags = flags; closes = false; context = Some c }) d a b
 
 pub rewatched-distinct : (change : Watch → Watch) (ws : List Watch) (x : Obj) → ((w : Watch) → (change w).object ≡ w.object) → ((w : Watch) → (change w).fd ≡ w.fd) → AreDistinct ws → AreDistinct (rewatched change ws x)
 rewatched-distinct change [] x same_object same_fd d = tt
@@ -220,3 +221,117 @@ turned-distinct ws x d = each (watch_of ws x) refl
         pushed-distinct (unwatched ws x) w (unwatched-distinct ws x d)
         (by_test (is_watching (unwatched ws x) w.object) (λ t. absurd ((unwatched-other ws x w.object t).1 (sym (watch-own ws x w e)))) (λ t. t))
         (unwatched-freed ws x w d e)
+
+-- ---- events that are lost with their context
+
+-- what is found among those that stay, or among the lost, was found
+found-kept : (q keep : Watch → Bool) (ws : List Watch) → found q (filter keep ws) ≡ true → found q ws ≡ true
+found-kept q keep [] h = h
+found-kept q keep (w ∷ ws) h = by_test (q w)
+    (λ u. rw u refl)
+    (λ u. rw u (found-kept q keep ws (by_test (keep w) (λ t. rw (t, u) at h) (λ t. rw t at h))))
+
+found-mapped : (q : Watch → Bool) (ws : List Watch) → ((w : Watch) → q (lost w) ≡ q w) → found q (map lost ws) ≡ found q ws
+found-mapped q [] k = refl
+found-mapped q (w ∷ ws) k =
+    let ih = found-mapped q ws k in
+    by_test (q w) (λ u. rw (k w, u) refl) (λ u. rw (k w, u) ih)
+
+found-joined : (q : Watch → Bool) (ws vs : List Watch) → found q (ws ++ vs) ≡ true → (found q ws ≡ true) ⊎ (found q vs ≡ true)
+found-joined q [] vs h = inr h
+found-joined q (w ∷ ws) vs h = by_test (q w) (λ u. inl (rw u refl)) (λ u. elim (found-joined q ws vs (rw u at h)) [
+  | inl l ↦ inl (rw u l)
+  | inr r ↦ inr r
+])
+
+found-without : (q : Watch → Bool) (ws : List Watch) (c : Obj) → ((w : Watch) → q (lost w) ≡ q w) → found q (ring_without ws c) ≡ true → found q ws ≡ true
+found-without q ws c k h = elim (found-joined q (filter (λ w. not (is_same w.context c)) ws) (map lost (ring_in ws c)) h) [
+  | inl l ↦ found-kept q (λ w. not (is_same w.context c)) ws l
+  | inr r ↦ found-kept q (λ w. is_same w.context c) ws (sym (found-mapped q (ring_in ws c) k) ∙ r)
+]
+
+pub without-watching : (ws : List Watch) (c y : Obj) → is_watching (ring_without ws c) y ≡ true → is_watching ws y ≡ true
+without-watching ws c y h = found-without (of_object y) ws c (λ w. refl) h
+
+pub without-watched : (ws : List Watch) (c : Obj) (fd : ℕ) → is_watched (ring_without ws c) fd ≡ true → is_watched ws fd ≡ true
+without-watched ws c fd h = watched-found ws fd ∙ found-without (of_descriptor fd) ws c (λ w. refl) (sym (watched-found (ring_without ws c) fd) ∙ h)
+
+kept-distinct : (keep : Watch → Bool) (ws : List Watch) → AreDistinct ws → AreDistinct (filter keep ws)
+kept-distinct keep [] d = tt
+kept-distinct keep (w ∷ ws) d = by_test (keep w)
+    (λ t. rw t (
+      not-more (is_watching (filter keep ws) w.object) (is_watching ws w.object) (found-kept (of_object w.object) keep ws) d.0,
+      watched-found (filter keep ws) w.fd ∙ not-more (found (of_descriptor w.fd) (filter keep ws)) (found (of_descriptor w.fd) ws) (found-kept (of_descriptor w.fd) keep ws) (sym (watched-found ws w.fd) ∙ d.1),
+      kept-distinct keep ws d.2,
+    ))
+    (λ t. rw t (kept-distinct keep ws d.2))
+
+-- two lists of distinct events that share nothing
+joined-distinct : (ws vs : List Watch) → AreDistinct ws → AreDistinct vs
+    → ((w : Watch) → found (of_object w.object) vs ≡ true → found (of_object w.object) ws ≡ false)
+    → ((w : Watch) → found (of_descriptor w.fd) vs ≡ true → found (of_descriptor w.fd) ws ≡ false) → AreDistinct (ws ++ vs)
+joined-distinct [] vs d e objects fds = e
+joined-distinct (w ∷ ws) vs d e objects fds = (
+  apart (of_object w.object) d.0 (by_test (found (of_object w.object) vs) (λ t. absurd (first-found w t (objects w t))) (λ t. t)),
+  watched-found (ws ++ vs) w.fd ∙ apart (of_descriptor w.fd) (sym (watched-found ws w.fd) ∙ d.1) (by_test (found (of_descriptor w.fd) vs) (λ t. absurd (first-watched w t (fds w t))) (λ t. t)),
+  joined-distinct ws vs d.2 e (λ v t. (none-behind (of_object v.object) w ws (objects v t)).1) (λ v t. (none-behind (of_descriptor v.fd) w ws (fds v t)).1),
+)
+  where
+    apart : (q : Watch → Bool) → found q ws ≡ false → found q vs ≡ false → found q (ws ++ vs) ≡ false
+    apart q a b = by_test (found q (ws ++ vs)) (λ t. elim (found-joined q ws vs t) [
+      | inl l ↦ let bad : true ≡ false = sym l ∙ a in cc
+      | inr r ↦ let bad : true ≡ false = sym r ∙ b in cc
+    ]) (λ t. t)
+
+    first-found : (w : Watch) → found (of_object w.object) vs ≡ true → found (of_object w.object) (w ∷ ws) ≡ false → ⊥
+    first-found w t h = let self : same w.object w.object ≡ true = same-equal w.object w.object refl in let bad : true ≡ false = rw self at h in cc
+
+    first-watched : (w : Watch) → found (of_descriptor w.fd) vs ≡ true → found (of_descriptor w.fd) (w ∷ ws) ≡ false → ⊥
+    first-watched w t h = let self : nat_eq w.fd w.fd ≡ true = eq-eqb w.fd w.fd refl in let bad : true ≡ false = rw self at h in cc
+
+-- at most one passes
+abbrev Once : (Watch → Bool) → List Watch → Type 0
+Once q [] = Unit {0}
+Once q (w ∷ ws) = (q w ≡ true → found q ws ≡ false) × Once q ws
+
+once-objects : (ws : List Watch) → AreDistinct ws → (v : Watch) → Once (of_object v.object) ws
+once-objects [] d v = tt
+once-objects (w ∷ ws) d v = (λ t. subst (λ (z : Obj). found (of_object z) ws ≡ false) (same-true w.object v.object t) d.0, once-objects ws d.2 v)
+
+once-descriptors : (ws : List Watch) → AreDistinct ws → (v : Watch) → Once (of_descriptor v.fd) ws
+once-descriptors [] d v = tt
+once-descriptors (w ∷ ws) d v = (λ t. subst (λ (n : ℕ). found (of_descriptor n) ws ≡ false) (eqb-true w.fd v.fd t) (sym (watched-found ws w.fd) ∙ d.1), once-descriptors ws d.2 v)
+
+-- one that is among the lost isn't among those that stay, where at most one passes
+split : (q : Watch → Bool) (c : Obj) (ws : List Watch) → Once q ws → found q (ring_in ws c) ≡ true → found q (filter (λ w. not (is_same w.context c)) ws) ≡ false
+split q c [] once h = cc
+split q c (w ∷ ws) once h = by_test (is_same w.context c)
+    (λ t. rw t (by_test (q w)
+    (λ u. not-more (found q (filter (λ z. not (is_same z.context c)) ws)) (found q ws) (found-kept q (λ z. not (is_same z.context c)) ws) (once.0 u))
+    (λ u. split q c ws once.1 (rw (t, u) at h))))
+    (λ t.
+    let h' : found q (ring_in ws c) ≡ true = rw t at h in
+    let ih = split q c ws once.1 h' in
+    by_test (q w)
+    (λ u. let bad : true ≡ false = sym (found-kept q (λ z. is_same z.context c) ws h') ∙ once.0 u in cc)
+    (λ u. rw (t, u) ih))
+
+pub without-distinct : (ws : List Watch) (c : Obj) → AreDistinct ws → AreDistinct (ring_without ws c)
+without-distinct ws c d =
+    joined-distinct (filter (λ w. not (is_same w.context c)) ws) (map lost (ring_in ws c)) (kept-distinct (λ w. not (is_same w.context c)) ws d) (mapped-distinct (ring_in ws c) (kept-distinct (λ w. is_same w.context c) ws d))
+    (λ v t. split-objects ws d v (sym (found-mapped (of_object v.object) (ring_in ws c) (λ w. refl)) ∙ t))
+    (λ v t. split-descriptors ws d v (sym (found-mapped (of_descriptor v.fd) (ring_in ws c) (λ w. refl)) ∙ t))
+  where
+    mapped-distinct : (vs : List Watch) → AreDistinct vs → AreDistinct (map lost vs)
+    mapped-distinct [] e = tt
+    mapped-distinct (v ∷ vs) e = (
+      found-mapped (of_object v.object) vs (λ w. refl) ∙ e.0,
+      watched-found (map lost vs) v.fd ∙ found-mapped (of_descriptor v.fd) vs (λ w. refl) ∙ sym (watched-found vs v.fd) ∙ e.1,
+      mapped-distinct vs e.2,
+    )
+
+    split-objects : (ws : List Watch) → AreDistinct ws → (v : Watch) → found (of_object v.object) (ring_in ws c) ≡ true → found (of_object v.object) (filter (λ w. not (is_same w.context c)) ws) ≡ false
+    split-objects ws d v t = split (of_object v.object) c ws (once-objects ws d v) t
+
+    split-descriptors : (ws : List Watch) → AreDistinct ws → (v : Watch) → found (of_descriptor v.fd) (ring_in ws c) ≡ true → found (of_descriptor v.fd) (filter (λ w. not (is_same w.context c)) ws) ≡ false
+    split-descriptors ws d v t = split (of_descriptor v.fd) c ws (once-descriptors ws d v) t

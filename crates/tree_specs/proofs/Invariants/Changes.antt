@@ -13,8 +13,8 @@ use Rattle.tree_specs.specs.declared.kind.Kind.{Kind}
 use Rattle.tree_specs.specs.Words.Objects.{same}
 use Rattle.tree_specs.specs.Tree.Pool.{Pool, row_of, target_at, is_object_row, is_owner, is_below, owner_of, without, changed, add, take_number, remove, place, named_row, sized_row, limited_row, marked_row, hooked_row}
 use Rattle.tree_specs.specs.Tree.Heirs.{heir}
-use Rattle.tree_specs.specs.Tree.Targets.{target_of, newest_ref}
-use Rattle.tree_specs.specs.Invariants.Sound.{IsReferable, IsQuietRow, Refers, Owned, Shaped, ValidAt, phase_of, phases, claim_if, claim, claims, AllWait, IsLive, Rests, Sound}
+use Rattle.tree_specs.specs.Tree.Targets.{target_of, newest_ref, is_context}
+use Rattle.tree_specs.specs.Invariants.Sound.{is_at_turn_mark, IsTurning, TurnedAt, IsReferable, IsQuietRow, Refers, Owned, Shaped, ValidAt, phase_of, phases, claim_if, claim, claims, AllWait, IsLive, Rests, Sound, MayBePlaced}
 use Rattle.tree_specs.proofs.Tree.Numbered.{by_test, same-true, same-equal, same-false, same_or_not, is_below-some}
 use Rattle.tree_specs.proofs.Tree.Rows.{row_of-changed-other, row_of-changed-same, row_of-without-other, row_of-without-same, row_of-placed-other, row_of-placed-same}
 use Rattle.tree_specs.proofs.Tree.Rooted.{KeepsPlace, forest-new, forest-placed, forest-changed, forest-without}
@@ -22,7 +22,6 @@ use Rattle.tree_specs.proofs.Tree.Heirs.{heir-may_take}
 use Rattle.tree_specs.proofs.Tree.Referring.{none-refers, unreferred, refers-at, refers-nothing, referable-refers, reference-childless}
 use Rattle.tree_specs.specs.Calls.Refusals.{is_referable}
 use Rattle.tree_specs.specs.Tree.Forest.{Distinct}
-use Rattle.tree_specs.specs.Invariants.Sound.{MayBePlaced}
 
 -- ---- what the works claim of a row
 
@@ -31,33 +30,33 @@ pub dying-row : (o : Option Row) (l : List Phase) → InLoop ∷ l ≡ phases o 
 dying-row None l e = cc
 dying-row (Some r) l e = marks r.mark refl e
   where
-    marks : (m : Mark) → r.mark ≡ m → InLoop ∷ l ≡ phase_of r.mark → (s : Row) × (Some r ≡ Some s) × (former : Owner) × (s.mark ≡ Dying former) × (l ≡ [])
+    marks : (m : Mark) → r.mark ≡ m → InLoop ∷ l ≡ phase_of r.kind r.mark → (s : Row) × (Some r ≡ Some s) × (former : Owner) × (s.mark ≡ Dying former) × (l ≡ [])
     marks Quiet m e = let e' : InLoop ∷ l ≡ [] = rw m at e in cc
     marks (Dying former) m e = let e' : InLoop ∷ l ≡ InLoop ∷ [] = rw m at e in (r, refl, former, m, cc)
     marks Asked m e = let e' : InLoop ∷ l ≡ InRun ∷ [] = rw m at e in cc
-    marks _ m e = let e' : InLoop ∷ l ≡ InHandler ∷ [] = rw m at e in cc
+    marks _ m e = by_test (is_context r.kind) (λ t. let e' : InLoop ∷ l ≡ [] = rw (m, t) at e in cc) (λ t. let e' : InLoop ∷ l ≡ InHandler ∷ [] = rw (m, t) at e in cc)
 
 -- a row of which a free says that its destructor runs is live and asked, and claimed once
 pub running-row : (o : Option Row) (l : List Phase) → InRun ∷ l ≡ phases o → (r : Row) × (o ≡ Some r) × IsLive r.mark × (l ≡ []) × (r.mark ≡ Asked)
 running-row None l e = cc
 running-row (Some r) l e = marks r.mark refl e
   where
-    marks : (m : Mark) → r.mark ≡ m → InRun ∷ l ≡ phase_of r.mark → (s : Row) × (Some r ≡ Some s) × IsLive s.mark × (l ≡ []) × (s.mark ≡ Asked)
+    marks : (m : Mark) → r.mark ≡ m → InRun ∷ l ≡ phase_of r.kind r.mark → (s : Row) × (Some r ≡ Some s) × IsLive s.mark × (l ≡ []) × (s.mark ≡ Asked)
     marks Quiet m e = let e' : InRun ∷ l ≡ [] = rw m at e in cc
     marks (Dying former) m e = let e' : InRun ∷ l ≡ InLoop ∷ [] = rw m at e in cc
     marks Asked m e = let e' : InRun ∷ l ≡ InRun ∷ [] = rw m at e in (r, refl, rw m tt, cc, m)
-    marks _ m e = let e' : InRun ∷ l ≡ InHandler ∷ [] = rw m at e in cc
+    marks _ m e = by_test (is_context r.kind) (λ t. let e' : InRun ∷ l ≡ [] = rw (m, t) at e in cc) (λ t. let e' : InRun ∷ l ≡ InHandler ∷ [] = rw (m, t) at e in cc)
 
 -- and one of which a turn says that its handler runs is live, and claimed once
-pub handling-row : (o : Option Row) (l : List Phase) → InHandler ∷ l ≡ phases o → (r : Row) × (o ≡ Some r) × IsLive r.mark × (l ≡ [])
+pub handling-row : (o : Option Row) (l : List Phase) → InHandler ∷ l ≡ phases o → (r : Row) × (o ≡ Some r) × IsLive r.mark × (is_context r.kind ≡ false) × (l ≡ [])
 handling-row None l e = cc
 handling-row (Some r) l e = marks r.mark refl e
   where
-    marks : (m : Mark) → r.mark ≡ m → InHandler ∷ l ≡ phase_of r.mark → (s : Row) × (Some r ≡ Some s) × IsLive s.mark × (l ≡ [])
+    marks : (m : Mark) → r.mark ≡ m → InHandler ∷ l ≡ phase_of r.kind r.mark → (s : Row) × (Some r ≡ Some s) × IsLive s.mark × (is_context s.kind ≡ false) × (l ≡ [])
     marks Quiet m e = let e' : InHandler ∷ l ≡ [] = rw m at e in cc
     marks Asked m e = let e' : InHandler ∷ l ≡ InRun ∷ [] = rw m at e in cc
     marks (Dying former) m e = let e' : InHandler ∷ l ≡ InLoop ∷ [] = rw m at e in cc
-    marks _ m e = let e' : InHandler ∷ l ≡ InHandler ∷ [] = rw m at e in (r, refl, rw m tt, cc)
+    marks _ m e = by_test (is_context r.kind) (λ t. let e' : InHandler ∷ l ≡ [] = rw (m, t) at e in cc) (λ t. let e' : InHandler ∷ l ≡ InHandler ∷ [] = rw (m, t) at e in (r, refl, rw m tt, t, cc))
 
 -- what a claim on x says
 pub claim-here : (x : Obj) (a : Phase) (l : List Phase) (o : Option Row) → claim_if (same x x) a ++ l ≡ phases o → a ∷ l ≡ phases o
@@ -74,15 +73,16 @@ not-zero h l = by_test (nat_eq h 0) (λ t. let e : h ≡ 0 = eqb-true h 0 t in a
 
 -- the same rows under other works that claim as much
 pub stands : (f f' : Frame) (fs fs' : List Frame) (p : Pool) → ((x : Obj) → claim x f' ++ claims x fs' ≡ claim x f ++ claims x fs) → AllWait fs' → Rests f' fs' p → Sound f fs p → Sound f' fs' p
-stands f f' fs fs' p e w h s = record { started = s.started; valid = s.valid; forest = s.forest; refers = s.refers; waiting = w; rests = h; open_frees = λ x. e x ∙ s.open_frees x }
+stands f f' fs fs' p e w h s = record { turned = s.turned; started = s.started; valid = s.valid; forest = s.forest; refers = s.refers; waiting = w; rests = h; open_frees = λ x. e x ∙ s.open_frees x }
 
 -- the same under another innermost work
 pub goes_on : (f f' : Frame) (fs : List Frame) (p : Pool) → ((x : Obj) → claim x f' ≡ claim x f) → Rests f' fs p → Sound f fs p → Sound f' fs p
 goes_on f f' fs p e h s = stands f f' fs fs p (λ x. ap (λ (l : List Phase). l ++ claims x fs) (e x)) s.waiting h s
 
 -- the same rows, of which others wait for their turn
-pub waiting-sound : (f f' : Frame) (fs : List Frame) (p q : Pool) → Sound f fs p → q.rows ≡ p.rows → q.next ≡ p.next → ((x : Obj) → claim x f' ≡ claim x f) → Rests f' fs q → Sound f' fs q
-waiting-sound f f' fs p q s rows next e h = record {
+pub waiting-sound : (f f' : Frame) (fs : List Frame) (p q : Pool) → Sound f fs p → q.rows ≡ p.rows → q.next ≡ p.next → q.turning ≡ p.turning → ((x : Obj) → claim x f' ≡ claim x f) → Rests f' fs q → Sound f' fs q
+waiting-sound f f' fs p q s rows next turning e h = record {
+  turned = rw (rows, turning) s.turned;
   started = rw next s.started;
   valid = rw (rows, next) s.valid;
   forest = rw rows s.forest;
@@ -112,6 +112,7 @@ numbered-sound f f' fs p s e h = record {
   forest = s.forest;
   refers = s.refers;
   open_frees = λ x. ap (λ (l : List Phase). l ++ claims x fs) (e x) ∙ s.open_frees x;
+  turned = s.turned;
   waiting = s.waiting;
   rests = h;
 }
@@ -127,6 +128,22 @@ valid-at next rs rs' x v other here y =
       | inr ne ↦ rw (other y ne) (v y)
     ]
 
+-- the context whose turn is under way, where one row was changed
+pub turned-at : (o : Option Obj) (rs rs' : List Row) (x : Obj) → TurnedAt o rs → ((y : Obj) → x ≢ y → row_of rs' y ≡ row_of rs y) → (o ≡ Some x → IsTurning (row_of rs' x)) → TurnedAt o rs'
+turned-at None rs rs' x t other here = tt
+turned-at (Some c) rs rs' x t other here = elim (same_or_not x c) [
+  | inl e ↦ subst (λ (z : Obj). IsTurning (row_of rs' z)) e (here (ap Some (sym e)))
+  | inr ne ↦ rw (other c ne) t
+]
+
+-- its row
+pub turning-row : (o : Option Obj) (rs : List Row) (x : Obj) (q : Option Row) → TurnedAt o rs → o ≡ Some x → row_of rs x ≡ q → IsTurning q
+turning-row o rs x q t e is = subst IsTurning is (let t' : TurnedAt (Some x) rs = subst (λ (z : Option Obj). TurnedAt z rs) e t in t')
+
+-- a row with which no turn is under way
+pub no-turn-row : {A : Type 0} (o : Option Obj) (rs : List Row) (x : Obj) (r : Row) → TurnedAt o rs → row_of rs x ≡ Some r → is_at_turn_mark r.mark ≡ false → o ≡ Some x → A
+no-turn-row o rs x r t is calm e = let k = turning-row o rs x (Some r) t e is in let bad : true ≡ false = sym k.1 ∙ calm in cc
+
 pub frees-at : (f f' : Frame) (fs fs' : List Frame) (rs rs' : List Row) (x : Obj) → ((y : Obj) → claim y f ++ claims y fs ≡ phases (row_of rs y))
     → ((y : Obj) → x ≢ y → row_of rs' y ≡ row_of rs y) → ((y : Obj) → x ≢ y → claim y f' ++ claims y fs' ≡ claim y f ++ claims y fs)
     → claim x f' ++ claims x fs' ≡ phases (row_of rs' x) → (y : Obj) → claim y f' ++ claims y fs' ≡ phases (row_of rs' y)
@@ -137,9 +154,9 @@ frees-at f f' fs fs' rs rs' x o other others here y =
     ]
 
 pub changed-sound : (g : Row → Row) (f f' : Frame) (fs fs' : List Frame) (p : Pool) (x : Obj) (r : Row) → Sound f fs p → KeepsPlace g → row_of p.rows x ≡ Some r → Shaped (g r).mark (g r).owner x
-    → target_of r.kind ≡ None → (r.mark ≡ Quiet → (g r).mark ≡ Quiet) ⊎ (newest_ref p.rows x ≡ None) → ((y : Obj) → x ≢ y → claim y f' ++ claims y fs' ≡ claim y f ++ claims y fs) → claim x f' ++ claims x fs' ≡ phase_of (g r).mark
-    → AllWait fs' → Rests f' fs' (record p { rows = changed g p.rows x }) → Sound f' fs' (record p { rows = changed g p.rows x })
-changed-sound g f f' fs fs' p x r s k e shaped object calm others here w h =
+    → target_of r.kind ≡ None → (r.mark ≡ Quiet → (g r).mark ≡ Quiet) ⊎ (newest_ref p.rows x ≡ None) → ((y : Obj) → x ≢ y → claim y f' ++ claims y fs' ≡ claim y f ++ claims y fs) → claim x f' ++ claims x fs' ≡ phase_of (g r).kind (g r).mark
+    → (p.turning ≡ Some x → is_at_turn_mark (g r).mark ≡ true) → AllWait fs' → Rests f' fs' (record p { rows = changed g p.rows x }) → Sound f' fs' (record p { rows = changed g p.rows x })
+changed-sound g f f' fs fs' p x r s k e shaped object calm others here turning w h =
     let new : row_of (changed g p.rows x) x ≡ Some (g r) = row_of-changed-same g p.rows x r k.serial e in
     let other : (y : Obj) → x ≢ y → row_of (changed g p.rows x) y ≡ row_of p.rows y = (λ y ne. row_of-changed-other g p.rows x y k.serial ne) in
     let v : ValidAt p.next (Some r) x = rw e at (s.valid x) in
@@ -154,6 +171,7 @@ changed-sound g f f' fs fs' p x r s k e shaped object calm others here w h =
             | inr none ↦ absurd (none-refers p.rows x y none q)
           ]) s.refers;
       open_frees = frees-at f f' fs fs' p.rows (changed g p.rows x) x s.open_frees other others (rw new here);
+      turned = turned-at p.turning p.rows (changed g p.rows x) x s.turned other (λ q. let t = turning-row p.turning p.rows x (Some r) s.turned q e in rw new (ap is_context (k.kind r) ∙ t.0, turning q));
       waiting = w;
       rests = h;
     }
@@ -190,7 +208,8 @@ pub unmarked-sound : (g : Row → Row) (f f' : Frame) (fs : List Frame) (p : Poo
     → target_of r.kind ≡ None → ((y : Obj) → claim y f' ≡ claim y f) → Rests f' fs (record p { rows = changed g p.rows x }) → Sound f' fs (record p { rows = changed g p.rows x })
 unmarked-sound g f f' fs p x r s k m e object claim-same h =
     changed-sound g f f' fs fs p x r s k e (rw (m r, k.owner r) (shape-of p x r s.valid e)) object (inl (λ q. m r ∙ q)) (λ y ne. ap (λ (l : List Phase). l ++ claims y fs) (claim-same y))
-    (ap (λ (l : List Phase). l ++ claims x fs) (claim-same x) ∙ s.open_frees x ∙ ap phases e ∙ ap phase_of (sym (m r))) s.waiting h
+    (ap (λ (l : List Phase). l ++ claims x fs) (claim-same x) ∙ s.open_frees x ∙ ap phases e ∙ (let a = m r in let b = k.kind r in rw (a, b) refl))
+    (λ q. let t = turning-row p.turning p.rows x (Some r) s.turned q e in ap is_at_turn_mark (m r) ∙ t.1) s.waiting h
 
 -- ---- an object that is put below an owner
 
@@ -233,6 +252,7 @@ placed-sound f f' o x fs p s may claim-same h =
           (λ y q. rw here (still (s.refers.target y x q))) s.refers;
       open_frees = frees-at f f' fs fs p.rows (place p o x).rows x s.open_frees other (λ y ne. ap (λ (l : List Phase). l ++ claims y fs) (claim-same y))
           (ap (λ (l : List Phase). l ++ claims x fs) (claim-same x) ∙ s.open_frees x ∙ ap phases may.is ∙ sym (ap phases here));
+      turned = turned-at p.turning p.rows (place p o x).rows x s.turned other (λ q. let t = turning-row p.turning p.rows x (Some r) s.turned q may.is in rw here t);
       waiting = s.waiting;
       rests = h;
     }
@@ -275,6 +295,7 @@ new-sound f f' kind o size name fs p s e may claim-same h =
       open_frees = λ y. ap (λ (l : List Phase). l ++ claims y fs) (claim-same y) ∙ by_test (same n y)
           (λ z. let q : n ≡ y = same-true n y z in rw z (s.open_frees y ∙ ap phases (ap (row_of p.rows) (sym q) ∙ none)))
           (λ z. rw z (s.open_frees y));
+      turned = turned-at p.turning p.rows (add p kind o size name).rows n s.turned (λ y ne'. let u : same n y ≡ false = same-false n y ne' in rw u refl) (λ q. absurd (turning-row p.turning p.rows n None s.turned q none));
       waiting = s.waiting;
       rests = h;
     }
@@ -291,7 +312,7 @@ new-sound f f' kind o size name fs p s e may claim-same h =
 
 quiet-phases : (o : Option Row) → IsQuietRow o → phases o ≡ []
 quiet-phases None q = refl
-quiet-phases (Some r) q = ap phase_of q
+quiet-phases (Some r) q = ap (phase_of r.kind) q
 
 -- a row of which a work says that something goes on is no reference, and no reference is to it
 pub run-refers : {a : Phase} (rs : List Row) (x : Obj) (l : List Phase) → Refers rs → a ∷ l ≡ phases (row_of rs x) → target_at rs x ≡ None
@@ -306,7 +327,12 @@ run-unreferred {a = a} rs x l d refers e = unreferred rs x d (not-so (row_of rs 
   where
     not-so : (o : Option Row) → a ∷ l ≡ phases o → IsReferable o → ⊥
     not-so None e h = h
-    not-so (Some r) e h = let bad : a ∷ l ≡ [] = e ∙ ap phase_of h.1 in cc
+    not-so (Some r) e h = let bad : a ∷ l ≡ [] = e ∙ ap (phase_of r.kind) h.1 in cc
+
+-- no turn is under way of what is quiet
+quiet-turning : (o : Option Row) → IsQuietRow o → IsTurning o → ⊥
+quiet-turning None q t = t
+quiet-turning (Some r) q t = let bad : false ≡ true = rw q at t.1 in cc
 
 -- a reference is dropped
 pub dropped-sound : (f f' : Frame) (fs : List Frame) (p : Pool) (r t : Obj) → Sound f fs p → target_at p.rows r ≡ Some t → ((y : Obj) → claim y f' ≡ claim y f) → Rests f' fs (remove p r) → Sound f' fs (remove p r)
@@ -322,6 +348,7 @@ dropped-sound f f' fs p r t s is claim-same h =
           (λ y q. absurd (refers-nothing p.rows r t (referable-refers (row_of p.rows r) (s.refers.target y r q)) is)) s.refers;
       open_frees = frees-at f f' fs fs p.rows (without p.rows r) r s.open_frees other (λ y ne. ap (λ (l : List Phase). l ++ claims y fs) (claim-same y))
           (ap (λ (l : List Phase). l ++ claims r fs) (claim-same r) ∙ s.open_frees r ∙ calm ∙ sym (ap phases gone));
+      turned = turned-at p.turning p.rows (without p.rows r) r s.turned other (λ q. absurd (quiet-turning (row_of p.rows r) (s.refers.quiet r t is) (turning-row p.turning p.rows r (row_of p.rows r) s.turned q refl)));
       waiting = s.waiting;
       rests = h;
     }

@@ -1,7 +1,6 @@
 -- What each step of a free keeps of what holds of requests.
 use Rattle.std.proofs.Common.{◌≡◌, ℕ, nat_eq, List, [], ◌∷◌, Option, Some, None, true, false, refl, sym, ◌∙◌, ap, inr}
-use Rattle.step_machine.specs.Machine.{Move}
-use Rattle.step_machine.specs.Machine.{Move as Do}
+use Rattle.step_machine.specs.Machine.{Move, Move as Do}
 use Rattle.step_machine.proofs.Ends.{Leads}
 use Rattle.tree_specs.specs.declared.object.Obj.{Obj}
 use Rattle.tree_specs.specs.declared.object.Owner.{Owner}
@@ -26,11 +25,14 @@ use Rattle.tree_specs.specs.declared.frame.Answer.{Answer}
 use Rattle.tree_specs.specs.declared.frame.Answer.TheVariants.{Freed}
 use Rattle.tree_specs.specs.declared.free_step.FreeReply.{FreeReply}
 use Rattle.tree_specs.specs.declared.free_step.FreeReply.TheVariants.{Ok}
+use Rattle.tree_specs.specs.declared.kind.Kind.{Kind}
+use Rattle.tree_specs.specs.declared.kind.Kind.TheVariants as kinds
 use Rattle.tree_specs.specs.Rules.Items.{Item}
 use Rattle.tree_specs.specs.Tree.Pool.{Pool, row_of, target_at, newest_ref_of, is_below, owner_of, is_inside, first_kid, left_row, marked_row, hooked_row, set_mark, detach, doom}
-use Rattle.tree_specs.specs.Tree.Targets.{newest_ref}
+use Rattle.tree_specs.specs.Tree.Targets.{newest_ref, is_context}
 use Rattle.tree_specs.specs.Tree.Heirs.{heir}
 use Rattle.tree_specs.specs.Events.Requests.{note_of, is_unreceived}
+use Rattle.tree_specs.specs.Events.Pending.{disarmed}
 use Rattle.tree_specs.specs.Calls.Refusals.{is_request, is_request_row, is_queue}
 use Rattle.tree_specs.specs.Machine.FreeTable.{FreeMove, begin_quiet, begin_step, refs_step, unlink_step, release_step, last_step, child_step, loop_step, hand_on_step, tried_step, free_step}
 use Rattle.tree_specs.specs.Machine.Table.{table, event_of, announced, lifted, run_for, resume}
@@ -38,7 +40,7 @@ use Rattle.tree_specs.specs.Invariants.Sound.{phases, phase_of, claims, AllWait,
 use Rattle.tree_specs.specs.Machine.Profiles.{Phase, InRun, InHandler}
 use Rattle.tree_specs.specs.Invariants.Noted.{NotesHold, Noted}
 use Rattle.tree_specs.proofs.Tree.Numbered.{by_test}
-use Rattle.tree_specs.proofs.Events.PendingLaws.{disarmed-other}
+use Rattle.tree_specs.proofs.Events.PendingLaws.{disarmed-other, without-armed}
 use Rattle.tree_specs.proofs.Invariants.Changes.{claim-here, heir-placed}
 use Rattle.tree_specs.proofs.Invariants.Waiters.{Waiter, ForRoutine, waiter}
 use Rattle.tree_specs.proofs.Invariants.Notes.{excepted, settled, unnoted-unreceived, changed-holds, unmarked-holds, quiet-holds, placed-holds, removed-holds}
@@ -88,13 +90,23 @@ beginning x fs p s h = newest (newest_ref p.rows x)
         (λ t. rw (u, w, t) (record { pool = h; works = none }))
         (λ t. rw (u, w, t) (record { pool = changed-holds (marked_row Asked) p (set_mark p x Asked) x h (λ r. refl) (λ r. refl) refl refl (λ y t. t) (λ v r. let bad : true ≡ false = sym v ∙ none in cc); works = tt }))))
 
+    -- nothing is to be received of what is busy
+    busy : (r : Row) → r.mark ≡ Busy → row_of p.rows x ≡ Some r → is_unreceived (note_of p.requests x) ≡ false
+    busy r m e = by_test (is_context r.kind)
+        (λ t. unnoted-unreceived p x (h.notes x ∙ ap is_request_row e ∙ other r.kind t))
+        (λ t. going p x InHandler [] h (sym (ap phases e ∙ ap (phase_of r.kind) m ∙ rw t refl)))
+      where
+        other : (k : Kind) → is_context k ≡ true → is_request k ≡ false
+        other kinds.Context t = refl
+        other _ t = cc
+
     marks : (r : Row) (m : Mark) → r.mark ≡ m → row_of p.rows x ≡ Some r → FreeNoted (begin_step x (Some r) p)
     marks r Quiet m e = rw m (quiet r e)
     marks r Busy m e =
-        let runs : InHandler ∷ [] ≡ phases (row_of p.rows x) = sym (ap phases e ∙ ap phase_of m) in
+        let received : is_unreceived (note_of p.requests x) ≡ false = busy r m e in
         rw m (record {
-          pool = changed-holds (marked_row Doomed) p (doom p x) x h (λ r. refl) (λ r. refl) refl refl (λ y t. (disarmed-other p.times x y t).0)
-              (λ v r. let bad : true ≡ false = sym v ∙ going p x InHandler [] h runs in cc);
+          pool = changed-holds (marked_row Doomed) p (doom p x) x h (λ r. refl) (λ r. refl) refl refl (λ y t. (disarmed-other p.times x y (without-armed (disarmed p.times x) x y t)).0)
+              (λ v r. let bad : true ≡ false = sym v ∙ received in cc);
           works = tt;
         })
     marks r _ m e = rw m h
@@ -170,7 +182,7 @@ free-noted (Prepared x) fs p s n =
     record { pool = quiet-holds p x n.pool; works = going p x InRun (claims x fs) n.pool (claim-here x InRun (claims x fs) (row_of p.rows x) (s.open_frees x)) }
 free-noted (Dooming x) fs p s n = n.pool
 free-noted (Leaving x hook) fs p s n = record {
-  pool = changed-holds left_row p (detach p x) x n.pool (λ r. refl) (λ r. refl) refl refl (λ y t. (disarmed-other p.times x y t).0) (λ v r. let bad : true ≡ false = sym v ∙ n.works in cc);
+  pool = changed-holds left_row p (detach p x) x n.pool (λ r. refl) (λ r. refl) refl refl (λ y t. (disarmed-other p.times x y (without-armed (disarmed p.times x) x y t)).0) (λ v r. let bad : true ≡ false = sym v ∙ n.works in cc);
   works = tt;
 }
 free-noted (Looping x purpose) fs p s n = looping x purpose fs p s n.pool

@@ -1,8 +1,7 @@
 -- What each step of a free keeps of what holds of queues.
 use Rattle.std.proofs.Common.{◌≡◌, ◌≢◌, ℕ, List, [], ◌∷◌, Option, Some, None, true, false, nat_eq, refl, sym, ap, subst, ◌∙◌, inl, inr}
 use Rattle.std.specs.Prelude.{unwrap_or, ◌++◌, if◌then◌else◌}
-use Rattle.step_machine.specs.Machine.{Move}
-use Rattle.step_machine.specs.Machine.{Move as Do}
+use Rattle.step_machine.specs.Machine.{Move, Move as Do}
 use Rattle.step_machine.proofs.Ends.{Leads}
 use Rattle.tree_specs.specs.declared.object.Obj.{Obj}
 use Rattle.tree_specs.specs.declared.object.Owner.{Owner}
@@ -22,7 +21,7 @@ use Rattle.tree_specs.specs.declared.frame.Errand.{Errand}
 use Rattle.tree_specs.specs.declared.frame.Frame.{Frame}
 use Rattle.tree_specs.specs.declared.frame.Frame.TheVariants as frame
 use Rattle.tree_specs.specs.declared.frame.CallFrame.TheVariants.{Awaiting, Turning, Requesting}
-use Rattle.tree_specs.specs.declared.frame.TurnFrame.TheVariants.{Handling, Clearing, Serving}
+use Rattle.tree_specs.specs.declared.frame.TurnFrame.TheVariants.{Parting, Handling, Clearing, Serving}
 use Rattle.tree_specs.specs.declared.frame.FreeFrame.{FreeFrame}
 use Rattle.tree_specs.specs.declared.frame.FreeFrame.TheVariants.{Unlinking, Releasing, Giving, Beginning, Hooked, Judged, Preparing, Draining, Prepared, Dooming, Leaving, Looping, FreeingChild, AfterChild, Ending}
 use Rattle.tree_specs.specs.declared.frame.RequestFrame.TheVariants as request
@@ -34,7 +33,7 @@ use Rattle.tree_specs.specs.declared.free_step.FreeReply.{FreeReply}
 use Rattle.tree_specs.specs.declared.free_step.FreeStep.TheVariants.{Dropped as IsDropped}
 use Rattle.tree_specs.specs.declared.free_step.FreeReply.TheVariants.{Ok, Held, Running, Refused}
 use Rattle.tree_specs.specs.Words.Objects.{same}
-use Rattle.tree_specs.specs.Tree.Targets.{target_of, newest_ref}
+use Rattle.tree_specs.specs.Tree.Targets.{target_of, newest_ref, is_context}
 use Rattle.tree_specs.specs.Tree.Heirs.{heir}
 use Rattle.tree_specs.specs.Tree.Pool.{Pool, row_of, target_at, is_below, owner_of, noted_owner, newest_ref_of, is_inside, first_kid, passes, remove, left_row, doom, set_mark, marked_row, hooked_row, place}
 use Rattle.tree_specs.specs.Tree.Forest.{Distinct}
@@ -42,7 +41,7 @@ use Rattle.tree_specs.specs.Events.Queues.{entry_of, is_entered, has_entries}
 use Rattle.tree_specs.specs.Calls.Refusals.{is_doomed_mark, is_request, is_queue, is_entry, is_queue_row, is_request_row}
 use Rattle.tree_specs.specs.Rules.Items.{Item}
 use Rattle.tree_specs.specs.Machine.FreeTable.{FreeMove, begin_quiet, begin_step, refs_step, unlink_step, release_step, last_step, child_step, loop_step, hand_on_step, tried_step, free_step}
-use Rattle.tree_specs.specs.Machine.Profiles.{Phase, InRun, InHandler, InLoop, free_profile}
+use Rattle.tree_specs.specs.Machine.Profiles.{Phase, InRun, InLoop, free_profile}
 use Rattle.tree_specs.specs.Machine.Table.{table, resume, reply_in, value_in, run_for, announced, event_of, lifted}
 use Rattle.tree_specs.specs.Invariants.Sound.{IsWaiting, Footing, OnFree, OnRequesting, footing, phases, phase_of, claims, claim, AllWait, IsReferable, IsRequested, IsLive, Sound}
 use Rattle.tree_specs.specs.Invariants.Consistent.{IsFree, IsWork, IsStacked, MayStandOn}
@@ -51,7 +50,7 @@ use Rattle.tree_specs.proofs.Tree.Numbered.{by_test, same-true, same-equal}
 use Rattle.tree_specs.proofs.Tree.Rows.{childless}
 use Rattle.tree_specs.proofs.Tree.Referring.{newest-refers, newest-of-refers}
 use Rattle.tree_specs.proofs.Invariants.Changes.{running-row, dying-row, claim-here, heir-placed}
-use Rattle.tree_specs.proofs.Invariants.Waiters.{Waiter, ForFree, ForRun, ForChild, ForTurn, ForHandler, ForClear, ForRequest, ForServed, ForReceived, ForDrained, ForRoutine, ForRelease, ForEntry, waiter}
+use Rattle.tree_specs.proofs.Invariants.Waiters.{ForParting, Waiter, ForFree, ForRun, ForChild, ForTurn, ForHandler, ForClear, ForRequest, ForServed, ForReceived, ForDrained, ForRoutine, ForRelease, ForEntry, waiter}
 use Rattle.tree_specs.proofs.Events.EntryLaws.{without-same}
 use Rattle.tree_specs.proofs.Invariants.Queues.{entry-unreferable, find-waiting, no-entries, same-queues, changed-queues, placed-queues, gone-queues, removed-queues}
 
@@ -130,6 +129,7 @@ ended a (g ∷ gs) p k w h of ends over = below g (waiter g gs w.0) w.0 h of.0 e
     below _ (ForTurn q) w h one ends over = record { pool = moved (frame.Call (Turning q)) _ h (λ y t d. d); works = tt; frees = (tt, of.1) }
     below _ (ForHandler what x handler occasion) w h one ends over = record { pool = moved (frame.Turn (Handling what x handler occasion)) _ h (λ y t d. d); works = tt; frees = (tt, of.1) }
     below _ (ForClear x) w h one ends over = record { pool = moved (frame.Turn (Clearing x)) _ h (λ y t d. d); works = tt; frees = (tt, of.1) }
+    below _ (ForParting x v) w h one ends over = record { pool = moved (frame.Turn (Parting x v)) _ h (λ y t d. d); works = tt; frees = (tt, of.1) }
     below _ (ForRequest q) w h one ends over = record { pool = moved (frame.Call (Requesting q)) _ h (λ y t d. d); works = tt; frees = (tt, of.1) }
     below _ (ForServed x) w h one ends over = record { pool = moved (frame.Turn (Serving x)) _ h (λ y t d. d); works = tt; frees = (tt, of.1) }
     below _ (ForReceived x) w h one ends over =
@@ -193,6 +193,7 @@ drained-runs x (g ∷ gs) w d = below g (waiter g gs w.0) d (drained-runs x gs w
     below g (ForTurn q) d more = later-run (claim x g) (claims x gs) (more d)
     below g (ForHandler what y handler occasion) d more = later-run (claim x g) (claims x gs) (more d)
     below g (ForClear y) d more = later-run (claim x g) (claims x gs) (more d)
+    below g (ForParting y v) d more = later-run (claim x g) (claims x gs) (more d)
     below g (ForRequest q) d more = later-run (claim x g) (claims x gs) (more d)
     below g (ForServed y) d more = later-run (claim x g) (claims x gs) (more d)
     below g (ForReceived y) d more = later-run (claim x g) (claims x gs) (more d)
@@ -208,14 +209,15 @@ claims-drained x fs w d none = subst HasRun none (drained-runs x fs w d)
 pub drained-spared : (f : Frame) (fs : List Frame) (p : Pool) (x : Obj) → Sound f fs p → drains x fs ≡ true → passes (λ r. is_doomed_mark r.mark) (row_of p.rows x) ≡ false
 drained-spared f fs p x s d = each (row_of p.rows x) (subst HasRun (s.open_frees x) (later-run (claim x f) (claims x fs) (drained-runs x fs s.waiting d)))
   where
-    marks : (m : Mark) → HasRun (phase_of m) → is_doomed_mark m ≡ false
-    marks Asked h = refl
-    marks Quiet h = absurd h
-    marks _ h = absurd h
+    marks : (k : Kind) (m : Mark) → HasRun (phase_of k m) → is_doomed_mark m ≡ false
+    marks k Asked h = refl
+    marks k Quiet h = absurd h
+    marks k (Dying former) h = absurd h
+    marks k _ h = by_test (is_context k) (λ t. absurd (rw t at h)) (λ t. absurd (rw t at h))
 
     each : (o : Option Row) → HasRun (phases o) → passes (λ r. is_doomed_mark r.mark) o ≡ false
     each None h = absurd h
-    each (Some r) h = marks r.mark h
+    each (Some r) h = marks r.kind r.mark h
 
 entry-is : (k : Kind) → is_entry k ≡ true → (is_request k ≡ false) × (is_queue k ≡ false)
 entry-is kind.Entry e = (refl, refl)
@@ -339,7 +341,7 @@ beginning x fs p s q = newest (newest_ref p.rows x) refl
     dooms : (r : Row) → row_of p.rows x ≡ Some r → r.mark ≡ Busy → Queued (frame.Free (Dooming x)) fs (doom p x)
     dooms r e m = record {
       pool = gone-queues (marked_row Doomed) fs (frame.Free (Dooming x) ∷ fs) p x r h e (λ z. refl) (λ z. refl) (doomed-live r e m) (λ y ne t d. d) (λ t. elim (h.idle x t) [
-        | inl none ↦ (let bad : InHandler ∷ [] ≡ [] = sym (ap phases e ∙ ap phase_of m) ∙ none in cc)
+        | inl none ↦ inl (sym (ap phases e ∙ ap (phase_of r.kind) m) ∙ none)
         | inr d ↦ inr d
       ]);
       works = without-same p.queues.entries x x (same-equal x x refl);

@@ -11,20 +11,22 @@ use Rattle.tree_specs.specs.declared.frame.CallFrame.TheVariants.{Asking, Doing,
 use Rattle.tree_specs.specs.declared.frame.FreeFrame.TheVariants.{Unlinking, Releasing, Giving, Beginning, Hooked, Judged, Preparing, Prepared, Dooming, Leaving, Looping, AfterChild, Ending, Draining}
 use Rattle.tree_specs.specs.declared.frame.Answer.TheVariants.{Freed, Returned}
 use Rattle.tree_specs.specs.declared.free_step.FreeReply.TheVariants.{Ok}
-use Rattle.tree_specs.specs.Tree.Pool.{Pool}
+use Rattle.tree_specs.specs.Tree.Pool.{Pool, enter}
 use Rattle.tree_specs.specs.declared.object.Obj.{Obj}
 use Rattle.tree_specs.specs.declared.frame.Errand.{Errand}
 use Rattle.tree_specs.specs.declared.frame.Errand.TheVariants.{Finish, Notify, Receive, Cancel}
 use Rattle.tree_specs.specs.declared.frame.RequestFrame.{RequestFrame}
 use Rattle.tree_specs.specs.declared.frame.RequestFrame.TheVariants as request
-use Rattle.tree_specs.specs.Calls.Plans.{Change, Plan, planned, changed_by}
+use Rattle.tree_specs.specs.Calls.Plans.{Change, Plan, changed_by, planned_at}
 use Rattle.tree_specs.specs.Calls.Plans.Plan.{Does, Frees, Unlinks, Empties, Asks, Turns, Works}
+use Rattle.tree_specs.specs.Calls.Plans.Change.{Enter}
+use Rattle.tree_specs.specs.Calls.Passed.{IsUsable}
 use Rattle.tree_specs.specs.Rules.Answers.{later}
 use Rattle.tree_specs.specs.Machine.Table.{step, plan_step, turning_step}
 use Rattle.tree_specs.specs.Invariants.Sound.{RequestRests, Sound}
 use Rattle.tree_specs.specs.Invariants.Sound.Footing.{OnRequesting}
 use Rattle.tree_specs.proofs.Invariants.Changes.{stands, goes_on, placed-sound}
-use Rattle.tree_specs.proofs.Calls.Plans.{MayWork, May, may-planned}
+use Rattle.tree_specs.proofs.Calls.Plans.{MayWork, May, may-planned-at}
 use Rattle.tree_specs.proofs.Calls.Changes.{MayDo, change-sound}
 use Rattle.tree_specs.proofs.Invariants.KeptFrees.{KeptBy, asking, beginning, dooming, ended, hooked, judged, leaving, looping, still-there, tried}
 use Rattle.tree_specs.proofs.Invariants.KeptGivings.{releasing, unlinking}
@@ -32,9 +34,11 @@ use Rattle.tree_specs.proofs.Invariants.KeptTurns.{turn-kept, outside-kept}
 use Rattle.tree_specs.proofs.Invariants.KeptRequests.{preparing, prepared, request-kept, draining}
 use Rattle.tree_specs.specs.Invariants.Queued.{AreQueued}
 
-turning-kept : (q : Ask) (c : Call) (fs : List Frame) (p : Pool) (k : ℕ) → Sound (frame.Call (Doing q c)) fs p → KeptBy (turning_step q p) fs k
-turning-kept Quiet c fs p k s = stands _ _ fs (frame.Call (Turning Quiet) ∷ fs) p (λ y. refl) (tt, s.waiting) tt s
-turning-kept q c fs p k s = goes_on (frame.Call (Doing q c)) (frame.Call (Telling (later q (reply.No refusal.Nested)) (reply.No refusal.Nested))) fs p (λ y. refl) tt s
+turning-kept : (q : Ask) (x : Obj) (c : Call) (fs : List Frame) (p : Pool) (k : ℕ) → IsUsable p x → Sound (frame.Call (Doing q c)) fs p → KeptBy (turning_step q x p) fs k
+turning-kept Quiet x c fs p k may s =
+    let f : Frame = frame.Call (Doing Quiet c) in
+    stands f _ fs (frame.Call (Turning Quiet) ∷ fs) (enter p x) (λ y. refl) (tt, s.waiting) tt (change-sound f f fs p (Enter x) s may (λ y. refl) (λ q. tt) tt)
+turning-kept q x c fs p k may s = goes_on (frame.Call (Doing q c)) (frame.Call (Telling (later q (reply.No refusal.Nested)) (reply.No refusal.Nested))) fs p (λ y. refl) tt s
 
 -- the work of a request begins on the call that waits for it
 work-kept : (q : Ask) (c : Call) (fs : List Frame) (p : Pool) (k : ℕ) (change : Change) (errand : Errand) (x : Obj) → Sound (frame.Call (Doing q c)) fs p → MayDo p change → MayWork (changed_by change p) errand x
@@ -62,13 +66,13 @@ planned-kept q c fs p k s (Frees x) may = stands _ _ fs (frame.Call (Awaiting q 
 planned-kept q c fs p k s (Unlinks o x) may = stands _ _ fs (frame.Call (Awaiting q x) ∷ fs) p (λ y. refl) (tt, s.waiting) (tt, may.0, may.1, may.2, may.3) s
 planned-kept q c fs p k s (Empties x) may = stands _ _ fs (frame.Call (Awaiting q x) ∷ fs) p (λ y. refl) (tt, s.waiting) tt s
 planned-kept q c fs p k s (Asks outside) may = stands _ _ fs (frame.Call (Turning q) ∷ fs) p (λ y. refl) (tt, s.waiting) tt s
-planned-kept q c fs p k s Turns may = turning-kept q c fs p k s
+planned-kept q c fs p k s (Turns x) may = turning-kept q x c fs p k may s
 planned-kept q c fs p k s (Works change errand x) may = work-kept q c fs p k change errand x s may.0 may.3
 
 -- every step keeps what is sound
 pub sound-kept : (f : Frame) (fs : List Frame) (p : Pool) (k : ℕ) → Sound f fs p → AreQueued p → KeptBy (step f p) fs k
 sound-kept (frame.Call (Asking q)) fs p k s w = asking q fs p k s
-sound-kept (frame.Call (Doing q c)) fs p k s w = planned-kept q c fs p k s (planned p c) (may-planned (frame.Call (Doing q c)) fs p s c)
+sound-kept (frame.Call (Doing q c)) fs p k s w = planned-kept q c fs p k s (planned_at q p c) (may-planned-at (frame.Call (Doing q c)) fs p s q c)
 sound-kept (frame.Call (Announcing q notice r)) fs p k s w = goes_on (frame.Call (Announcing q notice r)) (frame.Call (Telling q r)) fs p (λ y. refl) tt s
 sound-kept (frame.Call (Telling q r)) fs p k s w = goes_on (frame.Call (Telling q r)) (frame.Call (Asking q)) fs p (λ x. refl) tt s
 sound-kept (frame.Call (Returning v)) fs p k s w = ended (Returned v) (frame.Call (Returning v)) fs p k s (λ x. refl) (λ x c n b gs e. tt)

@@ -1,8 +1,7 @@
 -- What each step keeps of what is so of the works below one: the host's own caller stands on nothing, and nothing goes on with
 -- a request that is to be notified.
 use Rattle.std.proofs.Common.{◌≡◌, ℕ, suc, zero, List, [], ◌∷◌, Option, Some, None, Bool, true, false, refl, sym, ◌∙◌, subst}
-use Rattle.step_machine.specs.Machine.{Move}
-use Rattle.step_machine.specs.Machine.{Move as Do}
+use Rattle.step_machine.specs.Machine.{Move, Move as Do}
 use Rattle.step_machine.proofs.Ends.{Leads}
 use Rattle.tree_specs.specs.declared.object.Obj.{Obj}
 use Rattle.tree_specs.specs.declared.call.Call.{Call}
@@ -37,20 +36,21 @@ use Rattle.tree_specs.specs.declared.frame.Answer.{Answer}
 use Rattle.tree_specs.specs.declared.frame.Answer.TheVariants.{Freed, Returned, Turned, Heard}
 use Rattle.tree_specs.specs.Rules.Items.{Item}
 use Rattle.tree_specs.specs.Rules.Answers.{later}
-use Rattle.tree_specs.specs.Tree.Pool.{Pool, row_of, open_descriptor, run_queue}
+use Rattle.tree_specs.specs.Tree.Pool.{exit, Pool, row_of, open_descriptor, run_queue}
 use Rattle.tree_specs.specs.Events.Coming.{handler_for, goes_after}
 use Rattle.tree_specs.specs.Events.Requests.{note_of, is_noted, is_received, is_unreceived, cleanup_in, cancel_in, routine_of}
-use Rattle.tree_specs.specs.Calls.Plans.{Plan, planned}
+use Rattle.tree_specs.specs.Calls.Plans.{Plan, planned, planned_at}
 use Rattle.tree_specs.specs.Calls.Plans.Plan.{Does, Frees, Unlinks, Empties, Asks, Turns, Works}
+use Rattle.tree_specs.specs.Calls.Refusals.{is_doomed}
 use Rattle.tree_specs.specs.Machine.FreeTable.{FreeMove, free_step}
-use Rattle.tree_specs.specs.Machine.Table.{Step, table, event_of, announced, lifted, run_for, plan_step, turning_step, starting_step, handled_step, turn_step, outside_step, cancelling_step, cleaning_step, release_object, cleaned_step, callback_step, notifying_step, request_step, resume, step, vacating_step, triggering_step}
+use Rattle.tree_specs.specs.Machine.Table.{closing_step, deferred_step, Step, table, event_of, announced, lifted, run_for, plan_step, turning_step, starting_step, handled_step, turn_step, outside_step, cancelling_step, cleaning_step, release_object, cleaned_step, callback_step, notifying_step, request_step, resume, step, vacating_step, triggering_step}
 use Rattle.tree_specs.specs.Invariants.Sound.{phases, claims, AllWait, Sound}
 use Rattle.tree_specs.specs.Invariants.Noted.{NotesHold, Noted, ClaimNothing, CalmAsk, CalmErrand, IsCalm, AllCalm}
 use Rattle.tree_specs.proofs.Tree.Numbered.{by_test}
 use Rattle.tree_specs.proofs.Calls.Checks.{Heard as HeardBy, HeardCall, HeardReturn, heard-leads, Reached, ReachedOpening, ReachedHearing, reached-leads}
-use Rattle.tree_specs.proofs.Calls.Plans.{May, may-planned}
+use Rattle.tree_specs.proofs.Calls.Plans.{May, may-planned-at}
 use Rattle.tree_specs.proofs.Invariants.Turning.{Passes, Pass, Serve, look-passes, taken-plain, Trigger}
-use Rattle.tree_specs.proofs.Invariants.Waiters.{Waiter, ForFree, ForTurn, ForRequest, ForRoutine, ForHandler, ForClear, ForServed, waiter}
+use Rattle.tree_specs.proofs.Invariants.Waiters.{ForParting, Waiter, ForFree, ForTurn, ForRequest, ForRoutine, ForHandler, ForClear, ForServed, waiter}
 use Rattle.tree_specs.proofs.Invariants.Notes.{settled}
 use Rattle.tree_specs.proofs.Invariants.KeptFrees.{KeptBy}
 use Rattle.tree_specs.proofs.Invariants.Keeps.{sound-kept}
@@ -85,6 +85,7 @@ ended a (g ∷ gs) p k w h = (below g (waiter g gs w.0) h.0, h.1)
     below _ (ForHandler w x handler occasion) h = h
     below _ (ForClear x) h = h
     below _ (ForServed x) h = h
+    below _ (ForParting x v) h = h
     below _ _ h = tt
 
 -- nothing goes on with a request that is still to be received, so no work below frees it
@@ -127,9 +128,9 @@ planned-calm q c fs p k h (Frees x) may s n = (tt, h)
 planned-calm q c fs p k h (Unlinks o x) may s n = (tt, h)
 planned-calm q c fs p k h (Empties x) may s n = (tt, h)
 planned-calm q c fs p k h (Asks outside) may s n = (tt, h)
-planned-calm q c fs p k h Turns may s n = turns q h
+planned-calm q c fs p k h (Turns x) may s n = turns q h
   where
-    turns : (q : Ask) → AllCalm (frame.Call (Doing q c) ∷ fs) → CalmBy (turning_step q p) fs k
+    turns : (q : Ask) → AllCalm (frame.Call (Doing q c) ∷ fs) → CalmBy (turning_step q x p) fs k
     turns ask.Quiet h = (h.0, h)
     turns q h = (ask-later q (reply.No refusal.Nested) fs h.0, h.1)
 planned-calm q c fs p k h (Works change (Finish state) x) may s n = (finishing-calm x state _ _ s n, h)
@@ -140,11 +141,11 @@ planned-calm q c fs p k h (Works change Notify x) may s n = absurd may.3
 -- ---- turns
 
 passes-calm : (p : Pool) (fs : List Frame) (k : ℕ) (m : Step) → ClaimNothing fs → AllCalm fs → Passes p m → CalmBy m fs k
-passes-calm p fs k _ c h (Pass g q rows next notes queues times plain) = (c, h)
-passes-calm p fs k _ c h (Trigger x q rows next notes queues times queue) = (c, (c, h))
-passes-calm p fs k _ c h (Serve Notify x q rows next notes queues times served noted) = (c x, (c, h))
-passes-calm p fs k _ c h (Serve (Finish state.TimedOut) x q rows next notes queues times served noted) = (c x, (c, h))
-passes-calm p fs k _ c h (Serve _ x q rows next notes queues times served noted) = absurd served
+passes-calm p fs k _ c h (Pass g q rows next notes queues turning times plain) = (c, h)
+passes-calm p fs k _ c h (Trigger x q rows next notes queues turning times queue) = (c, (c, h))
+passes-calm p fs k _ c h (Serve Notify x q rows next notes queues turning times served noted) = (c x, (c, h))
+passes-calm p fs k _ c h (Serve (Finish state.TimedOut) x q rows next notes queues turning times served noted) = (c x, (c, h))
+passes-calm p fs k _ c h (Serve _ x q rows next notes queues turning times served noted) = absurd served
 
 turn-calm : (f : TurnFrame) (fs : List Frame) (p : Pool) (k : ℕ) → Sound (frame.Turn f) fs p → ClaimNothing fs → AllCalm fs → CalmBy (turn_step f p) fs k
 turn-calm Taking fs p k s c h = passes-calm p fs k _ c h (look-passes Taking p tt)
@@ -165,7 +166,11 @@ turn-calm (Handled w x) fs p k s c h = each (goes_after p w x)
     each : (b : Bool) → CalmBy (handled_step x b p) fs k
     each true = (tt, (c, h))
     each false = (c, h)
-turn-calm (Closing v) fs p k s c h = ended (Turned v) fs p k s.waiting h
+turn-calm (Closing v) fs p k s c h = each p.turning
+  where
+    each : (o : Option Obj) → CalmBy (closing_step v o p) fs k
+    each None = ended (Turned v) fs p k s.waiting h
+    each (Some x) = by_test (is_doomed p x) (λ d. rw d (tt, (c, h))) (λ d. rw d (ended (Turned v) fs (exit p x) k s.waiting h))
 turn-calm _ fs p k s c h = absurd s.rests
 
 outside-calm : (f : OutsideFrame) (fs : List Frame) (p : Pool) (k : ℕ) → Sound (frame.Outside f) fs p → AllCalm fs → CalmBy (outside_step f p) fs k
@@ -199,11 +204,15 @@ module _ (fs : List Frame) (p : Pool) (k : ℕ) (h : AllCalm fs) where
 
   notifying-calm : (x : Obj) (errand : Errand) → claims x fs ≡ [] → (o : Option Note) → CalmBy (notifying_step x errand o p) fs k
   notifying-calm x errand c None = (tt, h)
-  notifying-calm x errand c (Some n) = by_test n.deferred (λ t. rw t (tt, h)) (λ t. rw t (back n.callback))
+  notifying-calm x errand c (Some n) = deferred n.deferred
     where
       back : (o : Option Handler) → CalmBy (callback_step x errand o p) fs k
       back None = (tt, h)
       back (Some handler) = (from-none errand x fs c, h)
+
+      deferred : (o : Option Obj) → CalmBy (deferred_step x errand o n.callback p) fs k
+      deferred None = back n.callback
+      deferred (Some d) = (tt, h)
 
   -- only what wasn't received is cancelled
   cancelling-calm : (x : Obj) → claims x fs ≡ phases (row_of p.rows x) → NotesHold None p → (o : Option Note) → note_of p.requests x ≡ o → CalmBy (cancelling_step x (cancel_in o) p) fs k
@@ -253,7 +262,7 @@ calm-kept (frame.Call (Asking q)) fs p (suc k) s n w h = λ i g e. leads g (hear
     leads _ (HeardCall c) = h
     leads _ (HeardReturn v of) = (tt, h.1)
 calm-kept (frame.Call (Doing q c)) fs p k s n w h =
-    planned-calm q c fs p k h (planned p c) (may-planned (frame.Call (Doing q c)) fs p s c) (sound-kept (frame.Call (Doing q c)) fs p k s w) (noted-kept (frame.Call (Doing q c)) fs p k s n)
+    planned-calm q c fs p k h (planned_at q p c) (may-planned-at (frame.Call (Doing q c)) fs p s q c) (sound-kept (frame.Call (Doing q c)) fs p k s w) (noted-kept (frame.Call (Doing q c)) fs p k s n)
 calm-kept (frame.Call (Announcing q notice r)) fs p k s n w h = h
 calm-kept (frame.Call (Telling q r)) fs p k s n w h = h
 calm-kept (frame.Call (Returning v)) fs p k s n w h = ended (Returned v) fs p k s.waiting h.1

@@ -1,8 +1,7 @@
 -- What each step of a free keeps of what holds at every moment.
 use Rattle.std.proofs.Common.{◌≡◌, ◌≢◌, ℕ, suc, zero, List, [], ◌∷◌, Option, Some, None, true, false, nat_eq, refl, sym, ◌∙◌, ap, subst, inl, inr}
 use Rattle.std.specs.Prelude.{unwrap_or, ◌||◌}
-use Rattle.step_machine.specs.Machine.{Move}
-use Rattle.step_machine.specs.Machine.{Move as Do}
+use Rattle.step_machine.specs.Machine.{Move, Move as Do}
 use Rattle.step_machine.proofs.Ends.{Leads}
 use Rattle.tree_specs.specs.Machine.Profiles.{InRun, InLoop}
 use Rattle.tree_specs.specs.declared.object.Obj.{Obj}
@@ -16,7 +15,7 @@ use Rattle.tree_specs.specs.declared.question.Ask.TheVariants.{Routine}
 use Rattle.tree_specs.specs.declared.frame.Frame.{Frame}
 use Rattle.tree_specs.specs.declared.frame.Frame.TheVariants as frame
 use Rattle.tree_specs.specs.declared.frame.CallFrame.TheVariants.{Asking, Doing, Awaiting, Turning, Requesting, Returning}
-use Rattle.tree_specs.specs.declared.frame.TurnFrame.TheVariants.{Handling, Clearing, Serving}
+use Rattle.tree_specs.specs.declared.frame.TurnFrame.TheVariants.{Parting, Handling, Clearing, Serving}
 use Rattle.tree_specs.specs.declared.frame.RequestFrame.{RequestFrame}
 use Rattle.tree_specs.specs.declared.frame.RequestFrame.TheVariants as request
 use Rattle.tree_specs.specs.declared.moment.What.{What}
@@ -39,7 +38,7 @@ use Rattle.tree_specs.specs.Rules.Answers.{hook_moment}
 use Rattle.tree_specs.specs.Machine.FreeTable.{begin_quiet, begin_step, drop_step, refs_step, judge_step, last_step, child_step, loop_step, hand_on_step}
 use Rattle.tree_specs.specs.Machine.Table.{table, step, closed_event, announced, lifted, reply_in, resume}
 use Rattle.tree_specs.specs.Tree.Heirs.{heir}
-use Rattle.tree_specs.specs.Invariants.Sound.{Owned, Shaped, ValidAt, phase_of, phases, claim_if, claim, claims, Rests, IsLive, IsReferable, NotedFor, Tries, StillThere, IsOver, MayAnswer, RequestRests, Sound, Footing, footing, IsIdleEntry, IsRequested, IsPrepared, IsElsewhere}
+use Rattle.tree_specs.specs.Invariants.Sound.{is_at_turn_mark, Owned, Shaped, ValidAt, phase_of, phases, claim_if, claim, claims, Rests, IsLive, IsReferable, NotedFor, Tries, StillThere, IsOver, MayAnswer, RequestRests, Sound, Footing, footing, IsIdleEntry, IsRequested, IsPrepared, IsElsewhere}
 use Rattle.tree_specs.specs.Invariants.Sound.Footing.{OnCall, OnFree, AtBottom, OnDropping, OnRequesting}
 use Rattle.tree_specs.proofs.Tree.Numbered.{by_test, same-equal, same-false}
 use Rattle.tree_specs.proofs.Tree.Rows.{row_of-changed-other, row_of-changed-same, row_of-without-other, row_of-without-same, first_kid-owner}
@@ -48,9 +47,9 @@ use Rattle.tree_specs.proofs.Tree.Referring.{newest-refers, none-refers, newest-
 use Rattle.tree_specs.proofs.Tree.Ancestry.{inside-owner, inside-not_back}
 use Rattle.tree_specs.specs.Tree.Forest.{IsForest}
 use Rattle.tree_specs.specs.Tree.Targets.{target_of, newest_ref}
-use Rattle.tree_specs.proofs.Invariants.Waiters.{Waiter, ForFree, ForRun, ForChild, ForTurn, ForHandler, ForClear, ForRequest, ForServed, ForReceived, ForDrained, ForRoutine, ForRelease, ForEntry, waiter}
+use Rattle.tree_specs.proofs.Invariants.Waiters.{ForParting, Waiter, ForFree, ForRun, ForChild, ForTurn, ForHandler, ForClear, ForRequest, ForServed, ForReceived, ForDrained, ForRoutine, ForRelease, ForEntry, waiter}
 use Rattle.tree_specs.proofs.Calls.Checks.{Heard, HeardCall, HeardReturn, heard-leads}
-use Rattle.tree_specs.proofs.Invariants.Changes.{run-refers, run-unreferred, dropped-sound, dying-row, running-row, claim-here, positive, not-zero, stands, goes_on, waiting-sound, changed-sound, shape-of, live-owned, marks-place, hooks-place, unmarked-sound, valid-at, frees-at, placed-sound, heir-placed}
+use Rattle.tree_specs.proofs.Invariants.Changes.{turned-at, no-turn-row, run-refers, run-unreferred, dropped-sound, dying-row, running-row, claim-here, positive, not-zero, stands, goes_on, waiting-sound, changed-sound, shape-of, live-owned, marks-place, hooks-place, unmarked-sound, valid-at, frees-at, placed-sound, heir-placed}
 
 -- what a step leads to is sound
 abbrev pub KeptBy : Move Frame Answer Pool Item → List Frame → ℕ → Type 0
@@ -89,6 +88,7 @@ ended a f (g ∷ gs) p k s none there = below g (waiter g gs s.waiting.0) s ther
     below _ (ForTurn q) s there = stands f _ (frame.Call (Turning q) ∷ gs) gs p (λ y. rw (none y) refl) s.waiting.1 tt s
     below _ (ForHandler what x handler occasion) s there = stands f _ (frame.Turn (Handling what x handler occasion) ∷ gs) gs p (λ y. rw (none y) refl) s.waiting.1 s.waiting.0 s
     below _ (ForClear x) s there = stands f _ (frame.Turn (Clearing x) ∷ gs) gs p (λ y. rw (none y) refl) s.waiting.1 s.waiting.0 s
+    below _ (ForParting c v) s there = stands f _ (frame.Turn (Parting c v) ∷ gs) gs p (λ y. rw (none y) refl) s.waiting.1 s.waiting.0 s
     below _ (ForRequest q) s there = stands f _ (frame.Call (Requesting q) ∷ gs) gs p (λ y. rw (none y) refl) s.waiting.1 tt s
     below _ (ForServed x) s there = stands f _ (frame.Turn (Serving x) ∷ gs) gs p (λ y. rw (none y) refl) s.waiting.1 s.waiting.0 s
     below _ (ForReceived x) s there = stands f _ (frame.Free (Preparing x) ∷ gs) gs p (λ y. rw (none y) refl) s.waiting.1 tt s
@@ -130,6 +130,7 @@ leaving x h fs p k s =
       open_frees = frees-at (frame.Free (Leaving x h)) (frame.Free (Looping x (Removal h))) fs fs p.rows (changed left_row p.rows x) x s.open_frees other
           (λ y ne. let u : same x y ≡ false = same-false x y ne in by_test (nat_eq h 0) (λ t. rw (t, u) refl) (λ t. rw (t, u) refl))
           (rw (self, none, new) refl);
+      turned = turned-at p.turning p.rows (changed left_row p.rows x) x s.turned other (no-turn-row p.turning p.rows x r s.turned e s.rests.6);
       waiting = s.waiting;
       rests = tt;
     })
@@ -152,6 +153,7 @@ removed x h fs p alone s =
           (λ y q. absurd (let h : IsReferable (Some row.0) = rw row.1 at (s.refers.target y x q) in let bad : Dying row.2 ≡ Quiet = sym row.3 ∙ h.1 in cc)) s.refers;
       open_frees = frees-at (frame.Free (Looping x (Removal h))) (frame.Free (Ending Ok)) fs fs p.rows (without p.rows x) x s.open_frees (λ y ne. row_of-without-other p.rows x y ne)
           (λ y ne. let u : same x y ≡ false = same-false x y ne in rw u refl) (rw (none, gone) refl);
+      turned = turned-at p.turning p.rows (without p.rows x) x s.turned (λ y ne. row_of-without-other p.rows x y ne) (no-turn-row p.turning p.rows x row.0 s.turned row.1 (ap is_at_turn_mark row.3));
       waiting = s.waiting;
       rests = (tt, tt);
     }
@@ -214,6 +216,7 @@ tries-dropped x r (g ∷ gs) p s newest ne inside = below g (waiter g gs s.waiti
     below : (g : Frame) → Waiter g → Tries x (footing (g ∷ gs)) p → Tries x (footing (g ∷ gs)) (remove p r)
     below _ (ForFree q y) t = let bad : None ≡ Some r = sym t ∙ newest in cc
     below _ (ForClear y) t = let bad : None ≡ Some r = sym t ∙ newest in cc
+    below _ (ForParting y v) t = let bad : None ≡ Some r = sym t ∙ newest in cc
     below _ (ForRelease y) t = let bad : None ≡ Some r = sym t ∙ newest in cc
     below _ (ForEntry q y) t = let bad : None ≡ Some r = sym t.0 ∙ newest in cc
     below _ (ForChild y c noted purpose) t =
@@ -229,6 +232,7 @@ may-hold x r (g ∷ gs) p s newest = below g (waiter g gs s.waiting.0) s.rests.0
     below : (g : Frame) → Waiter g → Tries x (footing (g ∷ gs)) p → MayAnswer Held (footing (g ∷ gs))
     below _ (ForFree q y) t = let bad : None ≡ Some r = sym t ∙ newest in cc
     below _ (ForClear y) t = let bad : None ≡ Some r = sym t ∙ newest in cc
+    below _ (ForParting y v) t = let bad : None ≡ Some r = sym t ∙ newest in cc
     below _ (ForRelease y) t = let bad : None ≡ Some r = sym t ∙ newest in cc
     below _ _ t = tt
 
@@ -302,28 +306,28 @@ beginning x fs p k s = newest (newest_ref p.rows x) refl
         let rests : (q : Pool) → q.rows ≡ (doom p x).rows → Tries x (footing fs) q × (newest_ref q.rows x ≡ None) × IsElsewhere (footing fs) =
         (λ q is. (tries-same x (footing fs) p q none (rw is unreferred) (rw is same_owner) (λ h. rw is (idle h)) s.rests.0, rw is unreferred, elsewhere x (footing fs) p s.rests.0 busy)) in
         let t : Sound (frame.Free (Dooming x)) fs (set_mark p x Doomed) = changed-sound (marked_row Doomed) (frame.Free (Beginning x)) (frame.Free (Dooming x)) fs fs p x r s (marks-place Doomed) e
-        (live-owned r.mark r.owner x (rw m tt) (shape-of p x r s.valid e)) (object r e) (inr none) (λ y ne. refl) (s.open_frees x ∙ ap phases e ∙ ap phase_of m) s.waiting (rests (set_mark p x Doomed) refl) in
-        closing (closes_with p.ring x) (Dooming x) fs (doom p x) k (waiting-sound (frame.Free (Dooming x)) (frame.Free (Dooming x)) fs (set_mark p x Doomed) (doom p x) t refl refl (λ y. refl) (rests (doom p x) refl))
+        (live-owned r.mark r.owner x (rw m tt) (shape-of p x r s.valid e)) (object r e) (inr none) (λ y ne. refl) (s.open_frees x ∙ ap phases e ∙ ap (phase_of r.kind) m) (λ z. refl) s.waiting (rests (set_mark p x Doomed) refl) in
+        closing (closes_with p.ring x) (Dooming x) fs (doom p x) k (waiting-sound (frame.Free (Dooming x)) (frame.Free (Dooming x)) fs (set_mark p x Doomed) (doom p x) t refl refl refl (λ y. refl) (rests (doom p x) refl))
 
     -- an object that is asked, be it by its destructor or as a request
     asks : (g : FreeFrame) → newest_ref p.rows x ≡ None → (r : Row) → row_of p.rows x ≡ Some r → r.mark ≡ Quiet → ((y : Obj) → claim y (frame.Free g) ≡ claim_if (same x y) InRun)
         → Rests (frame.Free g) fs (set_mark p x Asked) → Sound (frame.Free g) fs (set_mark p x Asked)
     asks g unreferred r e m claims-it rests =
-        let none : claims x fs ≡ [] = s.open_frees x ∙ ap phases e ∙ ap phase_of m in
+        let none : claims x fs ≡ [] = s.open_frees x ∙ ap phases e ∙ ap (phase_of r.kind) m in
         let self : same x x ≡ true = same-equal x x refl in
         changed-sound (marked_row Asked) (frame.Free (Beginning x)) (frame.Free g) fs fs p x r s (marks-place Asked) e
         (live-owned r.mark r.owner x (rw m tt) (shape-of p x r s.valid e)) (object r e) (inr unreferred)
-        (λ y ne. let u : same x y ≡ false = same-false x y ne in rw (claims-it y, u) refl) (rw (claims-it x, self, none) refl) s.waiting rests
+        (λ y ne. let u : same x y ≡ false = same-false x y ne in rw (claims-it y, u) refl) (rw (claims-it x, self, none) refl) (no-turn-row p.turning p.rows x r s.turned e (rw m refl)) s.waiting rests
 
     quiet : newest_ref p.rows x ≡ None → (r : Row) → row_of p.rows x ≡ Some r → r.mark ≡ Quiet → KeptBy (lifted p.ring (begin_quiet x r.kind r.hook p)) fs k
     quiet unreferred r e m =
-        let none : claims x fs ≡ [] = s.open_frees x ∙ ap phases e ∙ ap phase_of m in
+        let none : claims x fs ≡ [] = s.open_frees x ∙ ap phases e ∙ ap (phase_of r.kind) m in
         by_test (is_request r.kind)
         (λ u. rw u (asks (Preparing x) unreferred r e m (λ y. refl) (marked_row Asked r, row_of-changed-same (marked_row Asked) p.rows x r (λ q. refl) e)))
         (λ u. by_test (is_queue r.kind)
         (λ v. rw (u, v) (asks (Draining x) unreferred r e m (λ y. refl) (marked_row Asked r, row_of-changed-same (marked_row Asked) p.rows x r (λ q. refl) e)))
         (λ v. by_test (nat_eq r.hook 0)
-        (λ t. rw (u, v, t) (goes_on (frame.Free (Beginning x)) (frame.Free (Leaving x 0)) fs p (λ y. refl) (r, e, rw m tt, none, object r e, unreferred) s))
+        (λ t. rw (u, v, t) (goes_on (frame.Free (Beginning x)) (frame.Free (Leaving x 0)) fs p (λ y. refl) (r, e, rw m tt, none, object r e, unreferred, rw m refl) s))
         (λ t. rw (u, v, t) (asks (Hooked x r.hook) unreferred r e m (λ y. refl) (positive r.hook t, rw (row_of-changed-same (marked_row Asked) p.rows x r (λ q. refl) e) refl)))))
 
     marks : newest_ref p.rows x ≡ None → (r : Row) (m : Mark) → r.mark ≡ m → row_of p.rows x ≡ Some r → KeptBy (lifted p.ring (begin_step x (row_of p.rows x) p)) fs k
@@ -349,7 +353,7 @@ pub judged : (x : Obj) (h v : ℕ) (fs : List Frame) (p : Pool) (k : ℕ) → So
 judged x h v fs p k s =
     let phase = claim-here x InRun (claims x fs) (row_of p.rows x) (s.open_frees x) in
     let row = running-row (row_of p.rows x) (claims x fs) phase in
-    by-row row.0 row.1 row.2 row.3 phase
+    by-row row.0 row.1 row.2 row.3 row.4 phase
   where
     self : same x x ≡ true
     self = same-equal x x refl
@@ -357,12 +361,12 @@ judged x h v fs p k s =
     hh : nat_eq h 0 ≡ false
     hh = not-zero h s.rests
 
-    by-row : (r : Row) → row_of p.rows x ≡ Some r → IsLive r.mark → claims x fs ≡ [] → InRun ∷ claims x fs ≡ phases (row_of p.rows x) → KeptBy (lifted p.ring (judge_step x h v p)) fs k
-    by-row r e live none phase =
+    by-row : (r : Row) → row_of p.rows x ≡ Some r → IsLive r.mark → claims x fs ≡ [] → r.mark ≡ Asked → InRun ∷ claims x fs ≡ phases (row_of p.rows x) → KeptBy (lifted p.ring (judge_step x h v p)) fs k
+    by-row r e live none asked phase =
         let object : target_of r.kind ≡ None = (let t : target_at p.rows x ≡ None = run-refers p.rows x (claims x fs) s.refers phase in let t' : target_in (Some r) ≡ None = rw e at t in t') in
         let unreferred : newest_ref p.rows x ≡ None = run-unreferred p.rows x (claims x fs) s.forest.distinct s.refers phase in
         by_test (nat_eq v 0)
         (λ t. rw t (unmarked-sound (hooked_row 0) (frame.Free (Judged x h v)) (frame.Free (Leaving x h)) fs p x r s (hooks-place 0) (λ q. refl) e object (λ y. rw hh refl)
-        (hooked_row 0 r, row_of-changed-same (hooked_row 0) p.rows x r (λ q. refl) e, live, none, object, newest-changed (hooked_row 0) p.rows x x (λ q. refl) (λ q. refl) ∙ unreferred)))
+        (hooked_row 0 r, row_of-changed-same (hooked_row 0) p.rows x r (λ q. refl) e, live, none, object, newest-changed (hooked_row 0) p.rows x x (λ q. refl) (λ q. refl) ∙ unreferred, rw asked refl)))
         (λ t. rw t (changed-sound (marked_row Quiet) (frame.Free (Judged x h v)) (frame.Free (Ending (Refused v))) fs fs p x r s (marks-place Quiet) e
-        (live-owned r.mark r.owner x live (shape-of p x r s.valid e)) object (inl (λ q. refl)) (λ y ne. let u : same x y ≡ false = same-false x y ne in rw u refl) none s.waiting (tt, tt)))
+        (live-owned r.mark r.owner x live (shape-of p x r s.valid e)) object (inl (λ q. refl)) (λ y ne. let u : same x y ≡ false = same-false x y ne in rw u refl) none (no-turn-row p.turning p.rows x r s.turned e (rw asked refl)) s.waiting (tt, tt)))

@@ -22,7 +22,7 @@ use Rattle.tree_specs.proofs.Tree.Rooted.{is_there-owner}
 use Rattle.tree_specs.proofs.Tree.Referring.{newest-refers, newest-of-refers, outside-without, owner-without}
 use Rattle.tree_specs.proofs.Tree.Ancestry.{inside-self, inside-owner}
 use Rattle.tree_specs.specs.Tree.Targets.{newest_ref}
-use Rattle.tree_specs.proofs.Invariants.Waiters.{Waiter, ForFree, ForClear, ForRelease, waiter}
+use Rattle.tree_specs.proofs.Invariants.Waiters.{ForParting, Waiter, ForFree, ForClear, ForRelease, waiter}
 use Rattle.tree_specs.proofs.Invariants.Changes.{dropped-sound, goes_on}
 use Rattle.tree_specs.proofs.Invariants.KeptFrees.{KeptBy, apart}
 
@@ -91,6 +91,7 @@ releasing x fs p k s = each (newest_ref p.rows x) refl
         below : (g : Frame) → Waiter g → IsCalled (footing (g ∷ gs)) → Tries x (footing (g ∷ gs)) p
         below _ (ForFree q y) c = e
         below _ (ForClear y) c = e
+        below _ (ForParting y v) c = e
         below _ (ForRelease y) c = e
         below _ _ c = absurd c
 

@@ -28,37 +28,38 @@ use Rattle.tree_specs.specs.declared.frame.OutsideFrame.TheVariants.{Reaching, O
 use Rattle.tree_specs.specs.declared.frame.RequestFrame.{RequestFrame}
 use Rattle.tree_specs.specs.declared.frame.RequestFrame.TheVariants as request
 use Rattle.tree_specs.specs.declared.frame.Answer.TheVariants.{Returned, Turned, Heard}
-use Rattle.tree_specs.specs.Tree.Pool.{Pool, row_of, marked_row, schedule, renote, open_descriptor, run_queue, trigger, add, add_queue, add_entry}
-use Rattle.tree_specs.specs.Tree.Targets.{newest_ref}
+use Rattle.tree_specs.specs.Tree.Pool.{exit, is_usable, enter, marked_row, set_mark, Pool, row_of, schedule, renote, open_descriptor, run_queue, trigger, add, add_queue, add_entry}
+use Rattle.tree_specs.specs.Tree.Targets.{newest_ref, is_context}
 use Rattle.tree_specs.specs.Events.Coming.{handler_for, begun, goes_after}
 use Rattle.tree_specs.specs.Events.Requests.{note_of, is_noted, is_unreceived, cleanup_in, cancel_in, is_received, is_in_progress, state_number, cleaned, not_deferring}
 use Rattle.tree_specs.specs.Calls.Refusals as refusing
-use Rattle.tree_specs.specs.Calls.Refusals.{tests, is_request, is_referable, is_request_row}
-use Rattle.tree_specs.specs.Calls.Plans.{Change, Plan, planned, plan, changed_by, gift}
-use Rattle.tree_specs.specs.Calls.Plans.Change.{Edit, Add, Place, Arm, AddRequest, Renotes, Then, AddQueue, AddEntry}
+use Rattle.tree_specs.specs.Calls.Refusals.{is_doomed, tests, is_request, is_referable, is_request_row}
+use Rattle.tree_specs.specs.Calls.Plans.{Change, Plan, planned, plan, changed_by, gift, planned_at}
+use Rattle.tree_specs.specs.Calls.Plans.Change.{Enter, Edit, Add, Place, Arm, AddRequest, Renotes, Then, AddQueue, AddEntry}
 use Rattle.tree_specs.specs.Calls.Plans.Plan.{Does, Frees, Unlinks, Turns, Works}
-use Rattle.tree_specs.specs.Calls.Passed.{AllPassed}
+use Rattle.tree_specs.specs.Calls.Passed.{IsUsable, AllPassed}
 use Rattle.tree_specs.specs.Machine.FreeTable.{free_step}
-use Rattle.tree_specs.specs.Machine.Table.{Step, plan_step, turning_step, starting_step, handled_step, turn_step, outside_step, cancelling_step, cleaning_step, release_object, cleaned_step, callback_step, notifying_step, request_step, step, vacating_step, triggering_step}
+use Rattle.tree_specs.specs.Machine.Table.{closing_step, deferred_step, Step, plan_step, turning_step, starting_step, handled_step, turn_step, outside_step, cancelling_step, cleaning_step, release_object, cleaned_step, callback_step, notifying_step, request_step, step, vacating_step, triggering_step}
 use Rattle.tree_specs.specs.Invariants.Sound.{Rests, Sound}
 use Rattle.tree_specs.specs.Invariants.Noted.{IsInProgress, NotesHold, Noted, IsForRequest, IsOfRequest}
 use Rattle.tree_specs.proofs.Tree.Numbered.{by_test}
-use Rattle.tree_specs.proofs.Calls.Checks.{planned-by, Makes, frees-makes, handed-makes, Heard as HeardBy, HeardCall, HeardReturn, heard-leads, Reached, ReachedOpening, ReachedHearing, reached-leads}
-use Rattle.tree_specs.proofs.Calls.Plans.{MayWork, May, may-planned}
-use Rattle.tree_specs.proofs.Calls.Changes.{MayDo, change-sound}
+use Rattle.tree_specs.proofs.Calls.Checks.{planned-by, Makes, frees-makes, handed-makes, Heard as HeardBy, HeardCall, HeardReturn, heard-leads, Reached, ReachedOpening, ReachedHearing, reached-leads, planned-at-by}
+use Rattle.tree_specs.proofs.Calls.Plans.{MayWork, May, may-planned-at}
+use Rattle.tree_specs.proofs.Calls.Changes.{usable-row, MayDo, change-sound}
 use Rattle.tree_specs.proofs.Invariants.Changes.{nobody}
 use Rattle.tree_specs.proofs.Invariants.Turning.{handler-ready, Passes, Pass, Serve, look-passes, taken-plain, Trigger}
 use Rattle.tree_specs.proofs.Invariants.Notes.{same-holds, unnoted-unreceived, excepted, unexcepted, changed-holds, unmarked-holds, quiet-holds, placed-holds, added-holds, requested-holds, armed-holds, renoted-holds, finished-holds, received-holds}
 use Rattle.tree_specs.proofs.Invariants.FreeNotes.{NotedBy, ended, free-noted, lifted-noted}
 use Rattle.tree_specs.specs.Events.Queues.{Head, head_of, next_of, runs}
 use Rattle.tree_specs.specs.declared.object.Owner.TheVariants.{Of}
+use Rattle.tree_specs.specs.Words.Objects.{same, first_context}
 
 -- ---- calls
 
 -- a change that makes no other row of a request, and arms only what is in progress
 abbrev KeepsNotes : Pool → Change → Type 0
 KeepsNotes p (Add k o size name) = is_request k ≡ false
-KeepsNotes p (Arm x time number) = IsInProgress p x
+KeepsNotes p (Arm x time number c) = IsInProgress p x
 KeepsNotes p (Then first second) = KeepsNotes p first × KeepsNotes (changed_by first p) second
 KeepsNotes p change = Unit {0}
 
@@ -79,19 +80,34 @@ module _ (p : Pool) (new : IsInProgress p (record { 0 = p.next })) where
   each (call.Free x) h = frees-makes (KeepsNotes p) x (newest_ref p.rows x)
   each (call.Reparent from to x) h = handed-makes (KeepsNotes p) to (gift p from x) tt (λ y e. tt)
   each (call.Reference o x) h = refl
+  each (call.Context o) h = refl
   each (call.Immediate o) h = refl
-  each (call.Schedule x routine user) h = by_test (nat_eq routine 0) (λ t. rw t tt) (λ t. rw t (tt, tt))
-  each (call.Timer o time routine user) h = (refl, (tt, new))
-  each (call.Fd o fd flags routine user) h = (refl, (tt, tt))
+  each (call.Schedule x routine user c) h = by_test (nat_eq routine 0) (λ t. rw t tt) (λ t. rw t (tt, tt))
+  each (call.Timer o time routine user c) h = (refl, (tt, new))
+  each (call.Fd o fd flags routine user c) h = (refl, (tt, tt))
   each (call.Error x error) h = by_test (nat_eq error 0) (λ t. rw t tt) (λ t. rw t tt)
-  each (call.Endtime x time) h = (h.1.1.0, tt)
+  each (call.Endtime x time c) h = (h.1.1.0, tt)
   each (call.Queue o name) h = tt
-  each (call.Enqueue q x routine user) h = tt
+  each (call.Enqueue q x routine user c) h = tt
   each (call.Start q) h = by_test (runs p.queues q) (λ t. rw t tt) (λ t. rw t (tt, tt))
   each _ h = tt
 
   plan-keeps : (c : Call) → PlanKeeps p (planned p c)
   plan-keeps c = planned-by (PlanKeeps p) p c (each c) (λ r. tt)
+
+-- a turn of a context begins
+entered-holds : (p : Pool) (c : Obj) → IsUsable p c → NotesHold None p → NotesHold None (enter p c)
+entered-holds p c may h = by_test (same c first_context)
+    (λ t. rw t h)
+    (λ t.
+    let q : Pool = record p { turning = Some c } in
+    let u = usable-row p c may t in
+    let none : is_unreceived (note_of p.requests c) ≡ false = unnoted-unreceived p c (h.notes c ∙ ap is_request_row u.is ∙ other u.row.kind u.context) in
+    rw t (changed-holds (marked_row Busy) q (set_mark q c Busy) c (same-holds p q h refl refl (λ y t. t)) (λ r. refl) (λ r. refl) refl refl (λ y t. t) (λ v r. let bad : true ≡ false = sym v ∙ none in cc)))
+  where
+    other : (k : Kind) → is_context k ≡ true → is_request k ≡ false
+    other kind.Context t = refl
+    other _ t = cc
 
 change-holds : (f : Frame) (fs : List Frame) (p : Pool) (c : Change) → Sound f fs p → ((q : Pool) → Rests f fs q) → MayDo p c → KeepsNotes p c → NotesHold None p → NotesHold None (changed_by c p)
 change-holds f fs p (Edit x g) s calm may keeps h = unmarked-holds g p x may.place.serial may.place.kind may.mark h
@@ -102,7 +118,8 @@ change-holds f fs p (AddQueue o name) s calm may keeps h =
 change-holds f fs p (AddEntry q x trigger) s calm may keeps h =
     same-holds (add p kind.Entry (Of x) 0 (codes "entry")) (add_entry p q x trigger) (added-holds p kind.Entry (Of x) 0 (codes "entry") refl (nobody p s.valid) h) refl refl (λ y t. t)
 change-holds f fs p (Place o x) s calm may keeps h = placed-holds p o x may h
-change-holds f fs p (Arm x time number) s calm may keeps h = armed-holds p x time number keeps h
+change-holds f fs p (Arm x time number c) s calm may keeps h = armed-holds p x time number c keeps h
+change-holds f fs p (Enter c) s calm may keeps h = entered-holds p c may h
 change-holds f fs p (Renotes x g) s calm may keeps h = renoted-holds g p x may h
 change-holds f fs p (Then c d) s calm may keeps h =
     let t = change-sound f f fs p c s may.0 (λ y. refl) calm (calm (changed_by c p)) in
@@ -121,28 +138,28 @@ planned-noted q c fs p k s h plan may keeps = each plan may keeps
     works change Cancel x h work = record { pool = h; works = tt }
     works change Notify x h work = absurd work
 
-    turning : (q : Ask) → NotedBy (turning_step q p) fs k
-    turning ask.Quiet = record { pool = h; works = tt }
-    turning q = record { pool = h; works = tt }
+    turning : (q : Ask) (x : Obj) → IsUsable p x → NotedBy (turning_step q x p) fs k
+    turning ask.Quiet x may = record { pool = over (Enter x) may tt; works = tt }
+    turning q x may = record { pool = h; works = tt }
 
     each : (plan : Plan) → May p plan → PlanKeeps p plan → NotedBy (plan_step q plan p) fs k
     each (Does change None r) may keeps = record { pool = over change may.0 keeps; works = tt }
     each (Does change (Some notice) r) may keeps = record { pool = over change may.0 keeps; works = tt }
-    each Turns may keeps = turning q
+    each (Turns x) may keeps = turning q x may
     each (Works change errand x) may keeps = works change errand x (over change may.0 keeps) may.3
     each _ may keeps = record { pool = h; works = tt }
 
 -- ---- turns
 
 passes-noted : (p : Pool) (fs : List Frame) (k : ℕ) (m : Step) → NotesHold None p → Passes p m → NotedBy m fs k
-passes-noted p fs k _ h (Pass g q rows next notes queues times plain) = record { pool = same-holds p q h rows notes times; works = tt }
-passes-noted p fs k _ h (Trigger x q rows next notes queues times queue) = record { pool = same-holds p q h rows notes times; works = tt }
-passes-noted p fs k _ h (Serve Notify x q rows next notes queues times served noted) = record { pool = same-holds p q h rows notes times; works = tt }
-passes-noted p fs k _ h (Serve (Finish TimedOut) x q rows next notes queues times served noted) = record {
+passes-noted p fs k _ h (Pass g q rows next notes queues turning times plain) = record { pool = same-holds p q h rows notes times; works = tt }
+passes-noted p fs k _ h (Trigger x q rows next notes queues turning times queue) = record { pool = same-holds p q h rows notes times; works = tt }
+passes-noted p fs k _ h (Serve Notify x q rows next notes queues turning times served noted) = record { pool = same-holds p q h rows notes times; works = tt }
+passes-noted p fs k _ h (Serve (Finish TimedOut) x q rows next notes queues turning times served noted) = record {
   pool = same-holds p q h rows notes times;
   works = (rw rows (sym (h.notes x) ∙ noted), rw notes (h.timed x served), tt);
 }
-passes-noted p fs k _ h (Serve _ x q rows next notes queues times served noted) = absurd served
+passes-noted p fs k _ h (Serve _ x q rows next notes queues turning times served noted) = absurd served
 
 -- an event that starts is no request
 begun-holds : (w : What) (x : Obj) (p : Pool) (handler : Handler) → handler_for p w x ≡ Some handler → NotesHold None p → NotesHold None (begun w x p)
@@ -176,7 +193,14 @@ turn-noted (Handled w x) fs p k s h = each (goes_after p w x)
     each : (b : Bool) → NotedBy (handled_step x b p) fs k
     each true = record { pool = quiet-holds p x h; works = tt }
     each false = record { pool = quiet-holds p x h; works = tt }
-turn-noted (Closing v) fs p k s h = ended (Turned v) fs p k s.waiting h
+turn-noted (Closing v) fs p k s h = each p.turning
+  where
+    out : (c : Obj) → NotesHold None (exit p c)
+    out c = quiet-holds (record p { turning = None }) c (same-holds p (record p { turning = None }) h refl refl (λ y t. t))
+
+    each : (o : Option Obj) → NotedBy (closing_step v o p) fs k
+    each None = ended (Turned v) fs p k s.waiting h
+    each (Some c) = by_test (is_doomed p c) (λ d. rw d (record { pool = out c; works = tt })) (λ d. rw d (ended (Turned v) fs (exit p c) k s.waiting (out c)))
 turn-noted (Firing w x handler occasion) fs p k s h = record { pool = h; works = tt }
 turn-noted (Handling w x handler occasion) fs p k s h = record { pool = h; works = tt }
 turn-noted _ fs p k s h = absurd s.rests
@@ -228,13 +252,19 @@ module _ (fs : List Frame) (p : Pool) (k : ℕ) (h : NotesHold None p) where
 
   notifies : (x : Obj) (errand : Errand) (o : Option Note) → note_of p.requests x ≡ o → NotedBy (notifying_step x errand o p) fs k
   notifies x errand None e = record { pool = h; works = tt }
-  notifies x errand (Some n) e = by_test n.deferred
-      (λ t. let r = renoted-holds not_deferring p x (λ m. refl) h in rw t (record { pool = same-holds (renote p x not_deferring) (schedule (renote p x not_deferring) x) r refl refl (λ y u. u); works = tt }))
-      (λ t. rw t (back n.callback))
+  notifies x errand (Some n) e = deferred n.deferred
     where
       back : (o : Option Handler) → NotedBy (callback_step x errand o p) fs k
       back None = record { pool = h; works = tt }
       back (Some handler) = record { pool = h; works = (is-request p x h (rw e refl), tt) }
+
+      deferred : (o : Option Obj) → NotedBy (deferred_step x errand o n.callback p) fs k
+      deferred None = back n.callback
+      deferred (Some c) =
+          let r = renoted-holds not_deferring p x (λ m. refl) h in
+          by_test (is_usable p.rows c)
+          (λ t. rw t (record { pool = same-holds (renote p x not_deferring) (schedule (renote p x not_deferring) x c) r refl refl (λ y u. u); works = tt }))
+          (λ t. rw t (record { pool = r; works = tt }))
 
 -- what is in progress wasn't received
 pub going-unreceived : (p : Pool) (x : Obj) (n : Note) → IsInProgress p x → note_of p.requests x ≡ Some n → is_unreceived (Some n) ≡ true
@@ -285,7 +315,7 @@ noted-kept (frame.Call (Asking q)) fs p (suc k) s n = λ i g e. leads g (heard-l
     leads _ (HeardCall c) = record { pool = n.pool; works = tt }
     leads _ (HeardReturn v of) = record { pool = n.pool; works = tt }
 noted-kept (frame.Call (Doing q c)) fs p k s n =
-    planned-noted q c fs p k s n.pool (planned p c) (may-planned (frame.Call (Doing q c)) fs p s c) (plan-keeps p (unnoted p n.pool.notes (nobody p s.valid)) c)
+    planned-noted q c fs p k s n.pool (planned_at q p c) (may-planned-at (frame.Call (Doing q c)) fs p s q c) (planned-at-by (PlanKeeps p) q p c (plan-keeps p (unnoted p n.pool.notes (nobody p s.valid)) c) (λ t. tt))
 noted-kept (frame.Call (Announcing q notice r)) fs p k s n = record { pool = n.pool; works = tt }
 noted-kept (frame.Call (Telling q r)) fs p k s n = record { pool = n.pool; works = tt }
 noted-kept (frame.Call (Returning v)) fs p k s n = ended (Returned v) fs p k s.waiting n.pool

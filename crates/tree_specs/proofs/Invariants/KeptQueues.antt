@@ -1,25 +1,21 @@
 -- What each step keeps of what holds of queues.
-use Rattle.std.proofs.Common.{◌≡◌, ℕ, suc, zero, nat_eq, List, [], ◌∷◌, Option, Some, None, true, false, Bool, refl, sym, ap, subst, ◌∙◌, inl, inr}
-use Rattle.std.specs.Prelude.{is_some, codes, ◌+◌}
+use Rattle.std.proofs.Common.{◌≡◌, ℕ, suc, zero, List, [], ◌∷◌, Option, Some, None, true, false, Bool, refl, sym, ap, subst, ◌∙◌, inl}
+use Rattle.std.specs.Prelude.{is_some}
 use Rattle.tree_specs.specs.declared.object.Obj.{Obj}
-use Rattle.tree_specs.specs.declared.object.Owner.{Owner}
-use Rattle.tree_specs.specs.declared.object.Owner.TheVariants.{Of}
 use Rattle.tree_specs.specs.declared.kind.Kind.{Kind}
 use Rattle.tree_specs.specs.declared.kind.Kind.TheVariants as kind
 use Rattle.tree_specs.specs.declared.row.Row.{Row}
 use Rattle.tree_specs.specs.declared.row.Mark.{Mark}
-use Rattle.tree_specs.specs.declared.row.Mark.TheVariants.{Quiet, Busy, Dying}
-use Rattle.tree_specs.specs.declared.call.Call.{Call}
+use Rattle.tree_specs.specs.declared.row.Mark.TheVariants.{Quiet, Busy, Doomed, Dying}
 use Rattle.tree_specs.specs.declared.call.Call.TheVariants as call
 use Rattle.tree_specs.specs.declared.handler.Handler.{Handler}
 use Rattle.tree_specs.specs.declared.moment.What.{What}
 use Rattle.tree_specs.specs.declared.moment.What.TheVariants as whats
-use Rattle.tree_specs.specs.declared.question.Ask.{Ask}
 use Rattle.tree_specs.specs.declared.question.Ask.TheVariants as ask
 use Rattle.tree_specs.specs.declared.request.Note.{Note}
 use Rattle.tree_specs.specs.declared.request.State.TheVariants.{TimedOut}
 use Rattle.tree_specs.specs.declared.frame.Errand.{Errand}
-use Rattle.tree_specs.specs.declared.frame.Errand.TheVariants.{Finish, Notify, Receive, Cancel}
+use Rattle.tree_specs.specs.declared.frame.Errand.TheVariants.{Finish, Notify, Receive}
 use Rattle.tree_specs.specs.declared.frame.Frame.{Frame}
 use Rattle.tree_specs.specs.declared.frame.Frame.TheVariants as frame
 use Rattle.tree_specs.specs.declared.frame.CallFrame.TheVariants.{Asking, Doing, Announcing, Telling, Returning}
@@ -32,181 +28,39 @@ use Rattle.tree_specs.specs.declared.frame.RequestFrame.{RequestFrame}
 use Rattle.tree_specs.specs.declared.frame.RequestFrame.TheVariants as request
 use Rattle.tree_specs.specs.declared.frame.Answer.TheVariants.{Returned, Turned, Heard}
 use Rattle.tree_specs.specs.declared.free_step.FreeReply.TheVariants.{Ok as FreeOk}
-use Rattle.tree_specs.specs.Tree.Targets.{newest_ref, target_of}
-use Rattle.tree_specs.specs.Tree.Pool.{Pool, row_of, passes, set_mark, marked_row, run_queue, trigger, open_descriptor, finish, receive, renote, schedule, add, note, is_below, owner_of, newest_ref_of, is_dying_mark}
-use Rattle.tree_specs.specs.Events.Queues.{Head, head_of, has_entries, next_of, runs, has_queue, head_in}
-use Rattle.tree_specs.specs.Events.Requests.{note_of, is_unreceived, cleanup_in, cancel_in, cleaned, not_deferring, new_note}
+use Rattle.tree_specs.specs.Tree.Targets.{is_context}
+use Rattle.tree_specs.specs.Tree.Pool.{exit, set_mark, marked_row, is_usable, Pool, row_of, run_queue, open_descriptor, finish, receive, renote, schedule, is_dying_mark}
+use Rattle.tree_specs.specs.Events.Queues.{Head, head_of, has_entries, next_of, has_queue, head_in}
+use Rattle.tree_specs.specs.Events.Requests.{note_of, is_unreceived, cleanup_in, cancel_in, cleaned, not_deferring}
 use Rattle.tree_specs.specs.Events.Coming.{comes_as, handler_for, goes_after, begun, handler_moment, plainly}
-use Rattle.tree_specs.specs.Calls.Passed.{AllPassed}
-use Rattle.tree_specs.specs.Calls.Refusals.{tests, is_queue, is_entry, is_plain, is_going, is_going_mark, is_entry_row, is_queue_row, is_plain_row}
-use Rattle.tree_specs.specs.Calls.Plans.{Change, Plan, plan, planned, changed_by, handed, gift}
-use Rattle.tree_specs.specs.Calls.Plans.Change.{Edit, Add, Place, AddQueue, AddEntry, AddRequest, Runs, Then}
-use Rattle.tree_specs.specs.Calls.Plans.Plan.{Does, Frees, Unlinks, Empties, Asks, Turns, Works}
-use Rattle.tree_specs.specs.Machine.Table.{Step, step, plan_step, turning_step, starting_step, handled_step, turn_step, outside_step, cancelling_step, cleaning_step, release_object, cleaned_step, callback_step, notifying_step, vacating_step, triggering_step, request_step}
-use Rattle.tree_specs.specs.Invariants.Sound.{Footing, OnFree, footing, phases, phase_of, claims, IsRequested, Drains, Rests, Sound, IsLive, Refers}
+use Rattle.tree_specs.specs.Calls.Refusals.{is_doomed, is_queue, is_entry, is_queue_row}
+use Rattle.tree_specs.specs.Calls.Plans.{Plan, planned, planned_at}
+use Rattle.tree_specs.specs.Calls.Plans.Plan.{Frees, Unlinks}
+use Rattle.tree_specs.specs.Machine.Table.{closing_step, deferred_step, over_step, Step, step, starting_step, handled_step, turn_step, outside_step, cancelling_step, cleaning_step, release_object, cleaned_step, callback_step, notifying_step, vacating_step, triggering_step, request_step}
+use Rattle.tree_specs.specs.Invariants.Sound.{is_at_turn_mark, IsTurning, Footing, OnFree, footing, claims, IsRequested, Drains, Sound, IsLive}
 use Rattle.tree_specs.specs.Invariants.Consistent.{IsStacked}
-use Rattle.tree_specs.specs.Invariants.Queued.{is_live_entry, drains, QueuesHold, OverFor, Queued, RestsQueued, IsOfChild}
+use Rattle.tree_specs.specs.Invariants.Queued.{drains, QueuesHold, OverFor, Queued, RestsQueued, IsOfChild}
 use Rattle.tree_specs.proofs.Tree.Numbered.{by_test}
-use Rattle.tree_specs.proofs.Invariants.Changes.{nobody, handling-row, claim-here, new-sound}
+use Rattle.tree_specs.proofs.Invariants.Changes.{turning-row, handling-row, claim-here}
 use Rattle.tree_specs.proofs.Invariants.Turning.{Passes, Pass, Trigger, Serve, handler-ready, look-passes, taken-plain}
-use Rattle.tree_specs.proofs.Invariants.Queues.{no-entries, same-queues, changed-queues, placed-queues, added-queues, new-queue-holds, new-entry-holds, ran-queues, triggered-queues, next-head, not-entered}
+use Rattle.tree_specs.proofs.Invariants.Queues.{no-entries, same-queues, changed-queues, ran-queues, triggered-queues, next-head}
 use Rattle.tree_specs.proofs.Invariants.FreeQueues.{QueuedBy, requested-over, no-work-over, no-free-ends, ended, lifted-queued, free-queued}
-use Rattle.tree_specs.proofs.Calls.Checks.{Makes, frees-makes, handed-makes, planned-by, heard-leads, Heard as HeardBy, HeardCall, HeardReturn, reached-leads, Reached, ReachedOpening, ReachedHearing}
-use Rattle.tree_specs.proofs.Calls.Plans.{May, may-planned}
-use Rattle.tree_specs.proofs.Calls.Changes.{MayDo, change-sound}
+use Rattle.tree_specs.proofs.Calls.Checks.{heard-leads, Heard as HeardBy, HeardCall, HeardReturn, reached-leads, Reached, ReachedOpening, ReachedHearing, planned-at-by}
+use Rattle.tree_specs.proofs.Calls.Plans.{may-planned-at}
 use Rattle.tree_specs.specs.Machine.Profiles.{InHandler}
-use Rattle.tree_specs.specs.Tree.Forest.{Distinct}
-use Rattle.tree_specs.proofs.Tree.Referring.{newest-of-refers}
 use Rattle.tree_specs.specs.declared.occasion.Occasion.{Occasion}
 use Rattle.tree_specs.specs.Machine.FreeTable.{free_step}
-
--- a work goes on as another that drains as much and is no free
-pub goes : (f g : Frame) (fs : List Frame) (p q : Pool) → q.rows ≡ p.rows → q.queues ≡ p.queues → ((y : Obj) → drains y (f ∷ fs) ≡ true → drains y (g ∷ fs) ≡ true) → QueuesHold (f ∷ fs) p → QueuesHold (g ∷ fs) q
-goes f g fs p q rows queues more h = same-queues (f ∷ fs) (g ∷ fs) p q h rows queues (λ y t d. more y d)
-
--- ---- calls
-
--- what a change says of queues: what is edited keeps its destructor or is no entry, what is placed is no entry, a new row is
--- neither, and nothing goes on with a queue that gets an entry
-abbrev KeepsQueues : Pool → Change → Type 0
-KeepsQueues p (Edit x g) = ((r : Row) → row_of p.rows x ≡ Some r → is_entry r.kind ≡ true → (g r).hook ≡ r.hook)
-KeepsQueues p (Add k o size name) = (is_queue k ≡ false) × (is_entry k ≡ false)
-KeepsQueues p (Place o x) = is_entry_row (row_of p.rows x) ≡ false
-KeepsQueues p (AddEntry q x trigger) = is_going p q ≡ false
-KeepsQueues p (Then first second) = KeepsQueues p first × KeepsQueues (changed_by first p) second
-KeepsQueues p change = Unit {0}
-
-abbrev PlanKeeps : Pool → Plan → Type 0
-PlanKeeps p plan = Makes (KeepsQueues p) plan
-
--- what a change leads to
-change-queues : (fs gs : List Frame) (f : Frame) (below : List Frame) (p : Pool) (c : Change) → Sound f below p → ((q : Pool) → Rests f below q) → MayDo p c → KeepsQueues p c → ((y : Obj) → drains y fs ≡ true → drains y gs ≡ true) → QueuesHold fs p
-    → QueuesHold gs (changed_by c p)
-change-queues fs gs f below p (Edit x g) s calm may keeps more h = changed-queues g fs gs p x may.row h may.is may.place.serial may.place.kind (ap is_dying_mark (may.mark may.row))
-    (λ t o w. let k = may.place.kind may.row in (k' k w.0, may.mark may.row ∙ w.1, keeps may.row may.is w.0 ∙ w.2, may.place.owner may.row ∙ w.3)) (λ y ne t d. more y d)
-    (λ t i. elim i [
-      | inl none ↦ inl (ap phase_of (may.mark may.row) ∙ none)
-      | inr d ↦ inr (more x d)
-    ])
-  where
-    k' : {a b : Kind} → a ≡ b → is_entry b ≡ true → is_entry a ≡ true
-    k' e t = ap is_entry e ∙ t
-change-queues fs gs f below p (Add k o size name) s calm may keeps more h = added-queues p (nobody p s.valid) fs gs k o size name _ keeps.0 keeps.1 refl refl more h
-change-queues fs gs f below p (AddRequest o size name) s calm may keeps more h =
-    let a : Pool = add p kind.Request o 0 (codes "req") in
-    let n : Note = new_note (record { 0 = p.next + 1 }) in
-    let b : Pool = note a (record { 0 = p.next }) n in
-    let hb : QueuesHold gs b = added-queues p (nobody p s.valid) fs gs kind.Request o 0 (codes "req") b refl refl refl refl more h in
-    let sa = new-sound f f kind.Request o 0 (codes "req") below p s may.0 (λ t e. cc) (λ y. refl) (calm a) in
-    added-queues b (nobody b sa.valid) gs gs kind.Plain (Of (record { 0 = p.next })) size name _ refl refl refl refl (λ y d. d) hb
-change-queues fs gs f below p (Place o x) s calm may keeps more h = placed-queues fs gs p o x may (not-entered p fs x h (not-live (row_of p.rows x) keeps)) h more
-  where
-    not-live : (w : Option Row) → is_entry_row w ≡ false → is_live_entry w ≡ false
-    not-live None e = refl
-    not-live (Some r) e = rw e refl
-change-queues fs gs f below p (AddQueue o name) s calm may keeps more h = new-queue-holds p (nobody p s.valid) fs gs o name more h
-change-queues fs gs f below p (AddEntry q x trigger) s calm may keeps more h = new-entry-holds p (nobody p s.valid) fs gs q x trigger may.0 may.2 (idle (row_of p.rows q) keeps) more h
-  where
-    marks : (m : Mark) → is_going_mark m ≡ false → phase_of m ≡ []
-    marks Quiet e = refl
-    marks _ e = cc
-
-    idle : (w : Option Row) → passes (λ r. is_going_mark r.mark) w ≡ false → phases w ≡ []
-    idle None e = refl
-    idle (Some r) e = marks r.mark e
-change-queues fs gs f below p (Runs q b) s calm may keeps more h = ran-queues fs gs p q b more h
-change-queues fs gs f below p (Then c d) s calm may keeps more h =
-    let t = change-sound f f below p c s may.0 (λ y. refl) calm (calm (changed_by c p)) in
-    change-queues gs gs f below (changed_by c p) d t calm may.1 keeps.1 (λ y d. d) (change-queues fs gs f below p c s calm may.0 keeps.0 more h)
-change-queues fs gs f below p c s calm may keeps more h = same-queues fs gs p (changed_by c p) h refl refl (λ y t d. more y d)
-
-module _ (p : Pool) (refers : Refers p.rows) (distinct : Distinct p.rows) where
-  -- what a call gives away is no entry
-  given : (from to : Owner) (x : Obj) → is_entry_row (row_of p.rows x) ≡ false → KeepsQueues p (handed to (gift p from x))
-  given from to x movable = by_test (is_below (owner_of p.rows x) from)
-      (λ t. rw t movable)
-      (λ t. rw t (handed-makes (KeepsQueues p) to (newest_ref_of p.rows from x) tt newest))
-    where
-      reference : (k : Kind) (t : Obj) → target_of k ≡ Some t → is_entry k ≡ false
-      reference (kind.Reference t) t' e = refl
-      reference _ t e = cc
-
-      newest : (r : Obj) → newest_ref_of p.rows from x ≡ Some r → KeepsQueues p (Place to r)
-      newest r e = let w = newest-of-refers p.rows from x r distinct e in ap is_entry_row w.1 ∙ reference w.0.kind x w.2
-
-  plain-only : (x : Obj) → is_plain_row (row_of p.rows x) ≡ true → (r : Row) → row_of p.rows x ≡ Some r → is_entry r.kind ≡ true → ⊥
-  plain-only x plain r e entry = kinds r.kind (let t : is_plain_row (Some r) ≡ true = rw e at plain in t) entry
-    where
-      kinds : (k : Kind) → is_plain k ≡ true → is_entry k ≡ true → ⊥
-      kinds kind.Plain a b = cc
-      kinds _ a b = cc
-
-  each : (c : Call) → AllPassed p (tests c) → PlanKeeps p (plan p c)
-  each (call.New o size name) h = (refl, refl)
-  each (call.Free x) h = frees-makes (KeepsQueues p) x (newest_ref p.rows x)
-  each (call.Steal o x) h = h.1.0
-  each (call.Move o x) h = h.1.0
-  each (call.Reparent from to x) h = given from to x h.1.0
-  each (call.Reference o x) h = (refl, refl)
-  each (call.Hook x routine) h = λ r e entry. absurd (plain-only x h.1.0 r e entry)
-  each (call.Unhook x) h = λ r e entry. absurd (plain-only x h.1.0 r e entry)
-  each (call.Rename x name) h = λ r e entry. refl
-  each (call.Resize x size) h = λ r e entry. refl
-  each (call.Limit x max) h = λ r e entry. refl
-  each (call.Immediate o) h = (refl, refl)
-  each (call.Schedule x routine user) h = by_test (nat_eq routine 0) (λ t. rw t tt) (λ t. rw t (tt, tt))
-  each (call.Timer o time routine user) h = ((refl, refl), (tt, tt))
-  each (call.Fd o fd flags routine user) h = ((refl, refl), (tt, tt))
-  each (call.Error x error) h = by_test (nat_eq error 0) (λ t. rw t tt) (λ t. rw t tt)
-  each (call.Endtime x time) h = (tt, tt)
-  each (call.Enqueue q x routine user) h = h.1.1.0
-  each (call.Start q) h = by_test (runs p.queues q) (λ t. rw t tt) (λ t. rw t (tt, tt))
-  each _ h = tt
-
-  plan-keeps : (c : Call) → PlanKeeps p (planned p c)
-  plan-keeps c = planned-by (PlanKeeps p) p c (each c) (λ r. tt)
-
-planned-queued : (q : Ask) (c : Call) (fs : List Frame) (p : Pool) (k : ℕ) → Sound (frame.Call (Doing q c)) fs p → Queued (frame.Call (Doing q c)) fs p → (plan : Plan) → May p plan → PlanKeeps p plan → QueuedBy (plan_step q plan p) fs k
-planned-queued q c fs p k s u plan may keeps = each plan may keeps
-  where
-    f : Frame
-    f = frame.Call (Doing q c)
-
-    -- over the objects as they are, a work below which nothing of queues is known
-    stays : (gs : List Frame) → ((y : Obj) → drains y (f ∷ fs) ≡ true → drains y gs ≡ true) → QueuesHold gs p
-    stays gs more = same-queues (f ∷ fs) gs p p u.pool refl refl (λ y t d. more y d)
-
-    over : (gs : List Frame) (change : Change) → MayDo p change → KeepsQueues p change → ((y : Obj) → drains y (f ∷ fs) ≡ true → drains y gs ≡ true) → QueuesHold gs (changed_by change p)
-    over gs change may keeps more = change-queues (f ∷ fs) gs f fs p change s (λ p'. tt) may keeps more u.pool
-
-    works : (change : Change) (errand : Errand) (x : Obj) → MayDo p change → KeepsQueues p change → QueuedBy (plan_step q (Works change errand x) p) fs k
-    works change (Finish state) x may keeps = record { pool = over _ change may keeps (λ y d. d); works = tt; frees = (tt, (tt, u.frees.1)) }
-    works change Receive x may keeps = record { pool = over _ change may keeps (λ y d. d); works = tt; frees = (tt, (tt, u.frees.1)) }
-    works change Cancel x may keeps = record { pool = over _ change may keeps (λ y d. d); works = tt; frees = (tt, (tt, u.frees.1)) }
-    works change Notify x may keeps = record { pool = over _ change may keeps (λ y d. d); works = tt; frees = (tt, (tt, u.frees.1)) }
-
-    turning : (q' : Ask) → q ≡ q' → QueuedBy (turning_step q' p) fs k
-    turning ask.Quiet e = record { pool = stays _ (λ y d. d); works = tt; frees = (tt, (tt, u.frees.1)) }
-    turning q' e = record { pool = stays _ (λ y d. d); works = tt; frees = (tt, u.frees.1) }
-
-    each : (plan : Plan) → May p plan → PlanKeeps p plan → QueuedBy (plan_step q plan p) fs k
-    each (Does change None r) may keeps = record { pool = over _ change may.0 keeps (λ y d. d); works = tt; frees = (tt, u.frees.1) }
-    each (Does change (Some notice) r) may keeps = record { pool = over _ change may.0 keeps (λ y d. d); works = tt; frees = (tt, u.frees.1) }
-    each (Frees x) may keeps = record { pool = stays _ (λ y d. d); works = tt; frees = (tt, (tt, u.frees.1)) }
-    each (Unlinks o x) may keeps = record { pool = stays _ (λ y d. d); works = tt; frees = (tt, (tt, u.frees.1)) }
-    each (Empties x) may keeps = record { pool = stays _ (λ y d. d); works = tt; frees = (tt, (tt, u.frees.1)) }
-    each (Asks outside) may keeps = record { pool = stays _ (λ y d. d); works = tt; frees = (tt, (tt, u.frees.1)) }
-    each Turns may keeps = turning q refl
-    each (Works change errand x) may keeps = works change errand x may.0 keeps
+use Rattle.step_machine.specs.Machine.{Move as Do}
+use Rattle.tree_specs.proofs.Invariants.KeptQueueCalls.{goes, PlanKeeps, plan-keeps, planned-queued}
 
 -- ---- turns
 
 passes-queued : (f : TurnFrame) (fs : List Frame) (p : Pool) (k : ℕ) (m : Step) → Queued (frame.Turn f) fs p → Passes p m → QueuedBy m fs k
-passes-queued f fs p k _ u (Pass g q rows next notes queues times plain) = record { pool = goes (frame.Turn f) (frame.Turn g) fs p q rows queues (λ y d. d) u.pool; works = tt; frees = (tt, u.frees.1) }
-passes-queued f fs p k _ u (Trigger x q rows next notes queues times queue) = record { pool = same-queues (frame.Turn f ∷ fs) _ p q u.pool rows queues (λ y t d. d); works = tt; frees = (tt, (tt, u.frees.1)) }
-passes-queued f fs p k _ u (Serve Notify x q rows next notes queues times served noted) = record { pool = same-queues (frame.Turn f ∷ fs) _ p q u.pool rows queues (λ y t d. d); works = tt; frees = (tt, (tt, u.frees.1)) }
-passes-queued f fs p k _ u (Serve (Finish TimedOut) x q rows next notes queues times served noted) = record { pool = same-queues (frame.Turn f ∷ fs) _ p q u.pool rows queues (λ y t d. d); works = tt; frees = (tt, (tt, u.frees.1)) }
-passes-queued f fs p k _ u (Serve _ x q rows next notes queues times served noted) = absurd served
+passes-queued f fs p k _ u (Pass g q rows next notes queues turning times plain) = record { pool = goes (frame.Turn f) (frame.Turn g) fs p q rows queues (λ y d. d) u.pool; works = tt; frees = (tt, u.frees.1) }
+passes-queued f fs p k _ u (Trigger x q rows next notes queues turning times queue) = record { pool = same-queues (frame.Turn f ∷ fs) _ p q u.pool rows queues (λ y t d. d); works = tt; frees = (tt, (tt, u.frees.1)) }
+passes-queued f fs p k _ u (Serve Notify x q rows next notes queues turning times served noted) = record { pool = same-queues (frame.Turn f ∷ fs) _ p q u.pool rows queues (λ y t d. d); works = tt; frees = (tt, (tt, u.frees.1)) }
+passes-queued f fs p k _ u (Serve (Finish TimedOut) x q rows next notes queues turning times served noted) = record { pool = same-queues (frame.Turn f ∷ fs) _ p q u.pool rows queues (λ y t d. d); works = tt; frees = (tt, (tt, u.frees.1)) }
+passes-queued f fs p k _ u (Serve _ x q rows next notes queues turning times served noted) = absurd served
 
 -- an event is no entry, and no queue
 event-is : (w : What) (k : Kind) → comes_as w k ≡ true → (is_entry k ≡ false) × (is_queue k ≡ false)
@@ -231,7 +85,7 @@ begun-queued w x occasion h fs p e u =
 handled-queued : (w : What) (x : Obj) (fs : List Frame) (p : Pool) (k : ℕ) → Sound (frame.Turn (Handled w x)) fs p → Queued (frame.Turn (Handled w x)) fs p → QueuedBy (turn_step (Handled w x) p) fs k
 handled-queued w x fs p k s u = each (goes_after p w x)
   where
-    row : (r : Row) × (row_of p.rows x ≡ Some r) × IsLive r.mark × (claims x fs ≡ [])
+    row : (r : Row) × (row_of p.rows x ≡ Some r) × IsLive r.mark × (is_context r.kind ≡ false) × (claims x fs ≡ [])
     row = handling-row (row_of p.rows x) (claims x fs) (claim-here x InHandler (claims x fs) (row_of p.rows x) (s.open_frees x))
 
     live : (m : Mark) → IsLive m → is_dying_mark Quiet ≡ is_dying_mark m
@@ -262,8 +116,30 @@ turn-queued (Starting w x occasion) fs p k s b u = each (handler_for p w x) refl
 turn-queued (Firing w x h occasion) fs p k s b u = record { pool = goes (frame.Turn (Firing w x h occasion)) _ fs p p refl refl (λ y d. d) u.pool; works = tt; frees = (tt, u.frees.1) }
 turn-queued (Handling w x h occasion) fs p k s b u = record { pool = same-queues (frame.Turn (Handling w x h occasion) ∷ fs) _ p p u.pool refl refl (λ y t d. d); works = tt; frees = (tt, u.frees) }
 turn-queued (Handled w x) fs p k s b u = handled-queued w x fs p k s u
-turn-queued (Closing v) fs p k s b u = ended (Turned v) fs p k s.waiting (same-queues (frame.Turn (Closing v) ∷ fs) fs p p u.pool refl refl (λ y t d. d)) u.frees.1
-    (no-free-ends (frame.Turn (Closing v)) fs p FreeOk (λ z. z) s.waiting b) (no-work-over (frame.Turn (Closing v)) fs p (λ z. z) s.waiting b)
+turn-queued (Closing v) fs p k s b u = each p.turning refl
+  where
+    over : (q : Pool) → QueuesHold fs q → QueuedBy (Do.Done (Turned v) q) fs k
+    over q h = ended (Turned v) fs q k s.waiting h u.frees.1 (no-free-ends (frame.Turn (Closing v)) fs q FreeOk (λ z. z) s.waiting b) (no-work-over (frame.Turn (Closing v)) fs q (λ z. z) s.waiting b)
+
+    live : (m : Mark) → is_at_turn_mark m ≡ true → is_dying_mark Quiet ≡ is_dying_mark m
+    live Busy t = refl
+    live Doomed t = refl
+    live _ t = cc
+
+    out : (gs : List Frame) (c : Obj) (o : Option Row) → row_of p.rows c ≡ o → IsTurning o → ((y : Obj) → drains y (frame.Turn (Closing v) ∷ fs) ≡ true → drains y gs ≡ true) → QueuesHold gs (exit p c)
+    out gs c None e t more = absurd t
+    out gs c (Some r) e t more =
+        let q : Pool = record p { turning = None } in
+        changed-queues (marked_row Quiet) (frame.Turn (Closing v) ∷ fs) gs q c r (same-queues (frame.Turn (Closing v) ∷ fs) (frame.Turn (Closing v) ∷ fs) p q u.pool refl refl (λ y z d. d)) e (λ z. refl) (λ z. refl) (live r.mark t.1)
+        (λ z o i. (i.0, refl, i.2, i.3)) (λ y ne z d. more y d) (λ z i. inl refl)
+
+    each : (o : Option Obj) → p.turning ≡ o → QueuedBy (closing_step v o p) fs k
+    each None e = over p (same-queues (frame.Turn (Closing v) ∷ fs) fs p p u.pool refl refl (λ y t d. d))
+    each (Some c) e =
+        let t = turning-row p.turning p.rows c (row_of p.rows c) s.turned e refl in
+        by_test (is_doomed p c)
+        (λ d. rw d (record { pool = out _ c (row_of p.rows c) refl t (λ y z. z); works = tt; frees = (tt, (tt, u.frees.1)) }))
+        (λ d. rw d (over (exit p c) (out fs c (row_of p.rows c) refl t (λ y z. z))))
 turn-queued _ fs p k s b u = absurd s.rests
 
 -- ---- a question to the outside
@@ -316,13 +192,20 @@ module _ (fs : List Frame) (p : Pool) (k : ℕ) where
 
   notifies : (x : Obj) (errand : Errand) → IsRequested (footing fs) → Queued (frame.Request (request.Notifying x errand)) fs p → (o : Option Note) → QueuedBy (notifying_step x errand o p) fs k
   notifies x errand r u None = on (request.Notifying x errand) fs p k u _ p refl refl (over-here p r)
-  notifies x errand r u (Some n) = by_test n.deferred
-      (λ t. let q : Pool = schedule (renote p x not_deferring) x in rw t (on (request.Notifying x errand) fs p k u _ q refl refl (over-here q r)))
-      (λ t. rw t (back n.callback))
+  notifies x errand r u (Some n) = deferred n.deferred
     where
       back : (o : Option Handler) → QueuedBy (callback_step x errand o p) fs k
       back None = on (request.Notifying x errand) fs p k u _ p refl refl (over-here p r)
       back (Some handler) = on (request.Notifying x errand) fs p k u _ p refl refl tt
+
+      to : (q : Pool) → q.rows ≡ p.rows → q.queues ≡ p.queues → QueuedBy (over_step errand q) fs k
+      to q rows queues = on (request.Notifying x errand) fs p k u _ q rows queues (over-here q r)
+
+      deferred : (o : Option Obj) → QueuedBy (deferred_step x errand o n.callback p) fs k
+      deferred None = back n.callback
+      deferred (Some c) = by_test (is_usable p.rows c)
+          (λ t. rw t (to (schedule (renote p x not_deferring) x c) refl refl))
+          (λ t. rw t (to (renote p x not_deferring) refl refl))
 
   -- the entries of a queue are freed; once there is none it is over
   vacates : (q : Obj) → Drains q (footing fs) → Queued (frame.Request (request.Vacating q)) fs p → (o : Option Head) → head_of p.queues q ≡ o → QueuedBy (vacating_step q o (run_queue p q false)) fs k
@@ -368,7 +251,7 @@ queued-kept (frame.Call (Asking q)) fs p (suc k) s b u = λ i g e. leads g (hear
     leads : (g : Frame) → HeardBy q g → Queued g fs p
     leads _ (HeardCall c) = record { pool = goes (frame.Call (Asking q)) _ fs p p refl refl (λ y d. d) u.pool; works = tt; frees = (tt, u.frees.1) }
     leads _ (HeardReturn v of) = record { pool = goes (frame.Call (Asking q)) _ fs p p refl refl (λ y d. d) u.pool; works = tt; frees = (tt, u.frees.1) }
-queued-kept (frame.Call (Doing q c)) fs p k s b u = planned-queued q c fs p k s u (planned p c) (may-planned (frame.Call (Doing q c)) fs p s c) (plan-keeps p s.refers s.forest.distinct c)
+queued-kept (frame.Call (Doing q c)) fs p k s b u = planned-queued q c fs p k s u (planned_at q p c) (may-planned-at (frame.Call (Doing q c)) fs p s q c) (planned-at-by (PlanKeeps p) q p c (plan-keeps p s.refers s.forest.distinct c) (λ t. tt))
 queued-kept (frame.Call (Announcing q notice r)) fs p k s b u = record { pool = goes (frame.Call (Announcing q notice r)) _ fs p p refl refl (λ y d. d) u.pool; works = tt; frees = (tt, u.frees.1) }
 queued-kept (frame.Call (Telling q r)) fs p k s b u = record { pool = goes (frame.Call (Telling q r)) _ fs p p refl refl (λ y d. d) u.pool; works = tt; frees = (tt, u.frees.1) }
 queued-kept (frame.Call (Returning v)) fs p k s b u = ended (Returned v) fs p k s.waiting (same-queues (frame.Call (Returning v) ∷ fs) fs p p u.pool refl refl (λ y t d. d)) u.frees.1

@@ -18,7 +18,7 @@ use Rattle.tree_specs.specs.Events.Pending.{is_armed}
 use Rattle.tree_specs.specs.Events.Requests.{note_of, is_noted, is_unreceived, new_note, in_state, is_in_progress}
 use Rattle.tree_specs.specs.Calls.Refusals as refusals
 use Rattle.tree_specs.specs.Calls.Refusals.{is_request, is_request_row}
-use Rattle.tree_specs.specs.Invariants.Sound.{ValidAt, MayBePlaced, phases, phase_of}
+use Rattle.tree_specs.specs.Invariants.Sound.{ValidAt, MayBePlaced, phases}
 use Rattle.tree_specs.specs.Invariants.Noted.{IsInProgress, NotesHold}
 use Rattle.tree_specs.proofs.Tree.Numbered.{by_test, same-true, same-equal, same-false, same_or_not}
 use Rattle.tree_specs.proofs.Tree.Rows.{row_of-changed-other, row_of-changed-same, row_of-changed-none, row_of-without-other, row_of-without-same, row_of-placed-other, row_of-placed-same}
@@ -96,7 +96,7 @@ unmarked-holds {e = e} g p x serial kind mark h = changed-holds g p (record p { 
   where
     same-phases : (o : Option Row) → row_of p.rows x ≡ o → phases (row_of (changed g p.rows x) x) ≡ phases (row_of p.rows x)
     same-phases None e = ap phases (row_of-changed-none g p.rows x x serial e) ∙ sym (ap phases e)
-    same-phases (Some r) e = ap phases (row_of-changed-same g p.rows x r serial e) ∙ ap phase_of (mark r) ∙ sym (ap phases e)
+    same-phases (Some r) e = ap phases (row_of-changed-same g p.rows x r serial e) ∙ (let a = mark r in let b = kind r in rw (a, b) refl) ∙ sym (ap phases e)
 
 -- nothing goes on with an object any more
 pub quiet-holds : {e : Option Obj} (p : Pool) (x : Obj) → NotesHold e p → NotesHold e (set_mark p x Quiet)
@@ -199,10 +199,10 @@ requested-holds {e = e} p o size name valid h = added-holds b kind.Plain (Of x) 
 
 -- ---- times and notes
 
-pub armed-holds : {e : Option Obj} (p : Pool) (x : Obj) (time number : ℕ) → IsInProgress p x → NotesHold e p → NotesHold e (arm p x time number)
-armed-holds p x time number going h = record {
+pub armed-holds : {e : Option Obj} (p : Pool) (x : Obj) (time number : ℕ) (c : Obj) → IsInProgress p x → NotesHold e p → NotesHold e (arm p x time number c)
+armed-holds p x time number c going h = record {
   notes = h.notes;
-  timed = λ y t. elim (armed-either p.times x time number y t) [
+  timed = λ y t. elim (armed-either p.times x time number c y t) [
     | inl l ↦ h.timed y l
     | inr e ↦ subst (λ (z : Obj). IsInProgress p z) e going
   ];

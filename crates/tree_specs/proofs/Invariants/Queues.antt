@@ -198,7 +198,7 @@ same-queues fs gs p q h rows queues more = holds fs gs p q h queues (λ y. ap (�
 pub changed-queues : (g : Row → Row) (fs gs : List Frame) (p : Pool) (x : Obj) (r : Row) → QueuesHold fs p → row_of p.rows x ≡ Some r → ((s : Row) → (g s).serial ≡ s.serial) → ((s : Row) → (g s).kind ≡ s.kind)
     → is_dying_mark (g r).mark ≡ is_dying_mark r.mark → (is_entered p.queues x ≡ true → (o : Obj) → IsEntryRow o (Some r) → IsEntryRow o (Some (g r)))
     → ((y : Obj) → x ≢ y → has_entries p.queues y ≡ true → drains y fs ≡ true → drains y gs ≡ true)
-    → (has_entries p.queues x ≡ true → (phase_of r.mark ≡ []) ⊎ (drains x fs ≡ true) → (phase_of (g r).mark ≡ []) ⊎ (drains x gs ≡ true)) → QueuesHold gs (record p { rows = changed g p.rows x })
+    → (has_entries p.queues x ≡ true → (phase_of r.kind r.mark ≡ []) ⊎ (drains x fs ≡ true) → (phase_of (g r).kind (g r).mark ≡ []) ⊎ (drains x gs ≡ true)) → QueuesHold gs (record p { rows = changed g p.rows x })
 changed-queues g fs gs p x r h e serial kind_is dying entry more here = holds fs gs p (record p { rows = changed g p.rows x }) h refl
     (λ y. at y (λ a b. is_queue_row a ≡ is_queue_row b) (λ o. refl) (ap is_queue (kind_is r)))
     (λ y t. at y (λ a b. is_request_row a ≡ is_request_row b) (λ o. refl) (ap is_request (kind_is r)) ∙ t)
@@ -253,7 +253,7 @@ live-entry r (Some s) e = rw (e.0, e.1) refl
 -- an object leaves its queue, and comes no more
 pub gone-queues : (g : Row → Row) (fs gs : List Frame) (p : Pool) (x : Obj) (r : Row) → QueuesHold fs p → row_of p.rows x ≡ Some r → ((s : Row) → (g s).serial ≡ s.serial) → ((s : Row) → (g s).kind ≡ s.kind)
     → is_live_entry (Some (g r)) ≡ false → ((y : Obj) → x ≢ y → has_entries p.queues y ≡ true → drains y fs ≡ true → drains y gs ≡ true)
-    → (has_entries p.queues x ≡ true → (phase_of (g r).mark ≡ []) ⊎ (drains x gs ≡ true)) → QueuesHold gs (let_go p x g)
+    → (has_entries p.queues x ≡ true → (phase_of (g r).kind (g r).mark ≡ []) ⊎ (drains x gs ≡ true)) → QueuesHold gs (let_go p x g)
 gone-queues g fs gs p x r h e serial kind_is live more here = record { queues = queues; entries = entries; waiting = waiting-without p (let_go p x g) p.queues.entries x waits h.waiting; idle = idle }
   where
     new : row_of (changed g p.rows x) x ≡ Some (g r)

@@ -6,7 +6,7 @@ use Rattle.tree_specs.specs.declared.question.Ask.{Ask}
 use Rattle.tree_specs.specs.declared.frame.Frame.{Frame}
 use Rattle.tree_specs.specs.declared.frame.Frame.TheVariants as frame
 use Rattle.tree_specs.specs.declared.frame.CallFrame.TheVariants.{Awaiting, Turning, Requesting}
-use Rattle.tree_specs.specs.declared.frame.TurnFrame.TheVariants.{Handling, Clearing, Serving}
+use Rattle.tree_specs.specs.declared.frame.TurnFrame.TheVariants.{Handling, Clearing, Serving, Parting}
 use Rattle.tree_specs.specs.declared.frame.RequestFrame.TheVariants as request
 use Rattle.tree_specs.specs.declared.frame.Errand.{Errand}
 use Rattle.tree_specs.specs.declared.handler.Handler.{Handler}
@@ -24,6 +24,7 @@ pub data Waiter : Frame → Type 0 where
   ForTurn : (q : Ask) → Waiter (frame.Call (Turning q))
   ForHandler : (what : What) (x : Obj) (handler : Handler) (occasion : Occasion) → Waiter (frame.Turn (Handling what x handler occasion))
   ForClear : (x : Obj) → Waiter (frame.Turn (Clearing x))
+  ForParting : (c : Obj) (v : ℕ) → Waiter (frame.Turn (Parting c v))
   ForRequest : (q : Ask) → Waiter (frame.Call (Requesting q))
   ForServed : (x : Obj) → Waiter (frame.Turn (Serving x))
   ForReceived : (x : Obj) → Waiter (frame.Free (Preparing x))
@@ -39,6 +40,7 @@ waiter (frame.Free (FreeingChild x c noted purpose)) gs w = ForChild x c noted p
 waiter (frame.Call (Turning q)) gs w = ForTurn q
 waiter (frame.Turn (Handling what x handler occasion)) gs w = ForHandler what x handler occasion
 waiter (frame.Turn (Clearing x)) gs w = ForClear x
+waiter (frame.Turn (Parting c v)) gs w = ForParting c v
 waiter (frame.Call (Requesting q)) gs w = ForRequest q
 waiter (frame.Turn (Serving x)) gs w = ForServed x
 waiter (frame.Free (Preparing x)) gs w = ForReceived x

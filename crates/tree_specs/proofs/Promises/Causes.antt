@@ -92,7 +92,7 @@ NotHeld c start = Unit {0}
 
 -- a call that takes a turn, asks the outside, or has an errand of a request done
 abbrev pub TurnsOrAsks : Call → Type 0
-TurnsOrAsks call.Turn = Unit {0}
+TurnsOrAsks (call.Turn c) = Unit {0}
 TurnsOrAsks call.Now = Unit {0}
 TurnsOrAsks (call.Accept fd) = Unit {0}
 TurnsOrAsks (call.Read fd len) = Unit {0}

@@ -2,8 +2,7 @@
 use Rattle.tree_specs.specs.Calls.Refusals.{is_held, is_running}
 use Rattle.std.proofs.Common.{◌≡◌, List, [], ◌∷◌, ◌++◌, Option, Some, None, true, false, refl, sym, ◌∙◌, subst, map}
 use Rattle.std.proofs.lemmas.List.{map_push}
-use Rattle.step_machine.specs.Machine.{Move}
-use Rattle.step_machine.specs.Machine.{Move as Do}
+use Rattle.step_machine.specs.Machine.{Move, Move as Do}
 use Rattle.step_machine.specs.Noted.{noted_move, noted_work, with_note}
 use Rattle.step_machine.specs.Open.{LastIs}
 use Rattle.step_machine.proofs.History.{FitsOn}
@@ -18,7 +17,7 @@ use Rattle.tree_specs.specs.declared.event.Event.TheVariants.{Replied, Refused}
 use Rattle.tree_specs.specs.declared.frame.Frame.{Frame}
 use Rattle.tree_specs.specs.declared.frame.Frame.TheVariants as frame
 use Rattle.tree_specs.specs.declared.frame.CallFrame.TheVariants.{Awaiting, Turning, Requesting}
-use Rattle.tree_specs.specs.declared.frame.TurnFrame.TheVariants.{Handling, Clearing, Serving}
+use Rattle.tree_specs.specs.declared.frame.TurnFrame.TheVariants.{Parting, Handling, Clearing, Serving}
 use Rattle.tree_specs.specs.declared.handler.Handler.{Handler}
 use Rattle.tree_specs.specs.declared.moment.What.TheVariants as whats
 use Rattle.tree_specs.specs.declared.reply.Reply.TheVariants as reply
@@ -46,7 +45,7 @@ use Rattle.tree_specs.specs.Machine.Meaning.{noted_table}
 use Rattle.tree_specs.proofs.Promises.Later.{Later, later-same}
 use Rattle.tree_specs.proofs.Promises.Past.{IsLeaving, Accounts, Past, past-goes}
 use Rattle.tree_specs.proofs.Promises.Causes.{NotedWork, item_of, told, IsFreeOf, IsAskedAs, IsHook, IsNoHook, IsRunAs, FreesBy, TurnsOrAsks, Knows, KnowsTurn, StandsFor, StandsOn, Stacked, OfNext, IsCaused, Cause, NotHeld, done-reply, cancelled-done}
-use Rattle.tree_specs.proofs.Invariants.Waiters.{Waiter, ForFree, ForRun, ForChild, ForTurn, ForHandler, ForClear, ForRequest, ForServed, ForReceived, ForRoutine, ForRelease, waiter, ForDrained, ForEntry}
+use Rattle.tree_specs.proofs.Invariants.Waiters.{ForParting, Waiter, ForFree, ForRun, ForChild, ForTurn, ForHandler, ForClear, ForRequest, ForServed, ForReceived, ForRoutine, ForRelease, waiter, ForDrained, ForEntry}
 
 abbrev pub work_of : NotedWork → Frame
 work_of w = w.work
@@ -209,6 +208,7 @@ resumed scenes f b (w ∷ ws) p a past stays stacked wait h = below w.work (wait
     below _ (ForTurn q) past on under h = next (frame.Call (Turning q)) past under (λ y k. k) (λ P k. later-hook P q (heard_in a) k) tt (caused-turn scenes w.note (heard_in a) on h)
     below _ (ForRequest q) past on under h = next (frame.Call (Requesting q)) past under (λ y k. k) (λ P k. later-hook P q (heard_in a) k) tt (caused-turn scenes w.note (heard_in a) on h)
     below _ (ForServed x) past on under h = next (frame.Turn (Serving x)) past under (λ y l. l) (λ P l. l) tt tt
+    below _ (ForParting x v) past on under h = next (frame.Turn (Parting x v)) past under (λ y l. l) (λ P l. l) tt tt
     below _ (ForReceived x) past on under h = next (frame.Free (Preparing x)) past under (λ y l. l) (λ P l. l) tt tt
     below _ (ForRoutine what x k errand) past on under h = next (frame.Request (request.Called what x k errand)) past under (λ y l. l) (λ P l. l) tt (after what x k errand)
     below _ (ForDrained x) past on under h = next (frame.Free (Draining x)) past under (λ y l. l) (λ P l. l) tt tt

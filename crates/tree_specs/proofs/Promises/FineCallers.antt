@@ -26,25 +26,26 @@ use Rattle.tree_specs.specs.declared.frame.CallFrame.TheVariants.{Asking, Doing,
 use Rattle.tree_specs.specs.declared.frame.FreeFrame.TheVariants.{Unlinking, Beginning, Looping}
 use Rattle.tree_specs.specs.declared.frame.Purpose.TheVariants.{Emptying}
 use Rattle.tree_specs.specs.declared.frame.Answer.TheVariants as answer
-use Rattle.tree_specs.specs.Tree.Pool.{Pool, row_of}
+use Rattle.tree_specs.specs.Tree.Pool.{enter, Pool, row_of}
 use Rattle.tree_specs.specs.Rules.Items.{Item}
 use Rattle.tree_specs.specs.Rules.Items.Item.{Told, Asked}
-use Rattle.tree_specs.specs.Calls.Refusals.{Check, refusals, tests, is_held}
+use Rattle.tree_specs.specs.Calls.Refusals.{Check, refusals, tests, is_held, is_nested}
 use Rattle.tree_specs.specs.Rules.Sequence.{CallStart, Scene}
 use Rattle.tree_specs.specs.Rules.Answers.{later}
 use Rattle.tree_specs.specs.Machine.Table.{notes, step, taken, plan_step, turning_step}
-use Rattle.tree_specs.specs.Promises.Orderly.{Fits, accepts, drops, has_state_from, frees as tells_free}
-use Rattle.tree_specs.specs.Promises.Orderly.{asks_hook}
+use Rattle.tree_specs.specs.Promises.Orderly.{Fits, accepts, drops, has_state_from, frees as tells_free, asks_hook}
 use Rattle.tree_specs.specs.Promises.Grounded.{AsksHook}
 use Rattle.tree_specs.specs.Invariants.Sound.{AllWait, claim, claims, phases, Refers, Sound}
 use Rattle.tree_specs.specs.Invariants.Consistent.{IsConsistent, IsStacked, Serves}
 use Rattle.tree_specs.proofs.Tree.Numbered.{by_test, same-equal}
-use Rattle.tree_specs.proofs.Calls.Checks.{all-pass, Heard, HeardCall, HeardReturn, heard-leads}
-use Rattle.tree_specs.proofs.Calls.Plans.{MayWork, May, may-planned}
+use Rattle.tree_specs.proofs.Calls.Checks.{all-pass, Heard, HeardCall, HeardReturn, heard-leads, planned-at-by}
+use Rattle.tree_specs.proofs.Calls.Plans.{MayWork, May, may-planned-at}
 use Rattle.tree_specs.proofs.Calls.Changes.{follows}
 use Rattle.tree_specs.specs.Tree.Forest.{Distinct}
-use Rattle.tree_specs.specs.Calls.Plans.{Plan, plan, planned, unless_refused, changed_by, frees, replies, failure_in, failure_reply, progress_reply}
+use Rattle.tree_specs.specs.Calls.Plans.{Plan, plan, planned, unless_refused, changed_by, frees, replies, failure_in, failure_reply, progress_reply, planned_at}
 use Rattle.tree_specs.specs.Calls.Plans.Plan.{Does, Frees, Unlinks, Empties, Asks, Turns, Works}
+use Rattle.tree_specs.specs.Calls.Plans.Change.{Enter}
+use Rattle.tree_specs.specs.Calls.Passed.{IsUsable}
 use Rattle.tree_specs.specs.declared.request.Note.{Note}
 use Rattle.tree_specs.specs.declared.request.State.{State}
 use Rattle.tree_specs.specs.declared.request.State.TheVariants as state
@@ -57,7 +58,7 @@ use Rattle.tree_specs.proofs.Invariants.Changes.{running-row, claim-here}
 use Rattle.tree_specs.proofs.Promises.Later.{Later, later-same}
 use Rattle.tree_specs.proofs.Promises.Past.{Accounts, Past, past-goes, past-tells, unfreed, unaccepted}
 use Rattle.tree_specs.proofs.Promises.Causes.{NotedWork, told, IsFreeOf, IsAskedAs, IsHook, TurnsOrAsks, FreesBy, StandsOn, Stacked, IsCaused, IsAskedFor, Cause, NotHeld}
-use Rattle.tree_specs.proofs.Invariants.Waiters.{Waiter, ForFree, ForRun, ForChild, ForTurn, ForHandler, ForClear, ForRequest, ForServed, ForReceived, ForRoutine, ForRelease, waiter, ForDrained, ForEntry}
+use Rattle.tree_specs.proofs.Invariants.Waiters.{ForParting, Waiter, ForFree, ForRun, ForChild, ForTurn, ForHandler, ForClear, ForRequest, ForServed, ForReceived, ForRoutine, ForRelease, waiter, ForDrained, ForEntry}
 use Rattle.tree_specs.proofs.Calls.OwnRefusals.{AllOwn, own-refused, own-just-now, own-call}
 use Rattle.tree_specs.proofs.Promises.Fitting.{last-more, fits-replied, fits-quiet, fits-asked, fits-handler, fits-warned, fits-closed}
 use Rattle.tree_specs.proofs.Promises.Fine.{work_of, Known, FineBy, restacked, goes-on, waits-for, of-next, from-next, later-hook, AnswersTo, resumed, caused-turn, known-told, taken-noted}
@@ -92,6 +93,7 @@ asking-fine scenes q b ws p whole known = (
     of-hook _ gs n (ForChild x c noted purpose) on seat claimed = absurd on
     of-hook _ gs n (ForTurn a) on seat claimed = absurd seat
     of-hook _ gs n (ForClear x) on seat claimed = absurd seat
+    of-hook _ gs n (ForParting x v) on seat claimed = absurd seat
     of-hook _ gs n (ForRoutine w x h errand) on seat claimed = fits-handler (told scenes) q on
     of-hook _ gs n (ForRequest a) on seat claimed = absurd seat
     of-hook _ gs n (ForServed x) on seat claimed = absurd seat
@@ -190,7 +192,7 @@ CausedBy p c (Frees x) = FreesBy x c × NotHeld c p
 CausedBy p c (Unlinks o x) = FreesBy x c × NotHeld c p
 CausedBy p c (Empties x) = FreesBy x c × NotHeld c p
 CausedBy p c (Asks q) = TurnsOrAsks c
-CausedBy p c Turns = TurnsOrAsks c
+CausedBy p c (Turns x) = TurnsOrAsks c
 CausedBy p c (Works change errand x) = TurnsOrAsks c
 
 -- what isn't said of a call is a reply that needs no cause
@@ -206,7 +208,7 @@ caused p (call.Accept fd) none = tt
 caused p (call.Read fd len) none = tt
 caused p (call.Write fd bytes) none = tt
 caused p call.Now none = tt
-caused p call.Turn none = tt
+caused p (call.Turn x) none = tt
 caused p (call.Cancel x) none = tt
 caused p (call.Done x) none = tt
 caused p (call.Oom x) none = tt
@@ -236,12 +238,17 @@ caused-planned p c d refers = each (refusals p c) refl (own-refused p (tests c))
     each [] none own = caused p c none
     each (why ∷ rest) e own = λ scenes. (let h = own-call scenes p c why rest d refers e in (own-just-now (told scenes) p why own.0, h.0, h.1, h.2))
 
+-- a turn that is refused as nested needs no cause
+caused-nested : (q : Ask) (p : Pool) (c : Call) → is_nested q c ≡ true → CausedBy p c (replies (reply.No refusal.Nested))
+caused-nested (ask.Routine m) p (call.Turn x) e = λ scenes. (tt, tt, tt, tt)
+caused-nested q p c e = cc
+
 -- a turn that is nested has its reply told, and any other is waited for
-turning-fine : (scenes : List Scene) (q : Ask) (c : Call) (b : Option CallStart) (ws : List NotedWork) (p : Pool) → Known scenes (with_note b (frame.Call (Doing q c))) ws p → TurnsOrAsks c
-    → FineBy scenes (frame.Call (Doing q c)) b p (turning_step q p) ws
-turning-fine scenes ask.Quiet c b ws p known turns =
-    waits-for scenes (frame.Call (Doing ask.Quiet c)) (frame.Call (Turning ask.Quiet)) b ws p p (frame.Turn Taking) (record { stays = λ y l. l; free = λ y h. h; run = λ P h. h }) (later-same p) tt tt turns tt known
-turning-fine scenes q c b ws p known turns =
+turning-fine : (scenes : List Scene) (q : Ask) (x : Obj) (c : Call) (b : Option CallStart) (ws : List NotedWork) (p : Pool) → IsUsable p x → Known scenes (with_note b (frame.Call (Doing q c))) ws p → TurnsOrAsks c
+    → FineBy scenes (frame.Call (Doing q c)) b p (turning_step q x p) ws
+turning-fine scenes ask.Quiet x c b ws p may known turns =
+    waits-for scenes (frame.Call (Doing ask.Quiet c)) (frame.Call (Turning ask.Quiet)) b ws p (enter p x) (frame.Turn Taking) (record { stays = λ y l. l; free = λ y h. h; run = λ P h. h }) (follows p (Enter x) may).later tt tt turns tt known
+turning-fine scenes q x c b ws p may known turns =
     let r : Reply = reply.No refusal.Nested in
     goes-on scenes (frame.Call (Doing q c)) (frame.Call (Telling (later q r) r)) b ws p p (record { stays = λ y l. l; free = λ y h. h; run = λ P h. later-hook P q r h }) (later-same p) tt
     (caused-turn scenes (Some (record { call = c; start = p })) r turns tt) known
@@ -271,7 +278,7 @@ module _ (scenes : List Scene) (q : Ask) (c : Call) (b : Option CallStart) (ws :
   planned-next (Empties x) may cause = frees-next x (frame.Free (Looping x Emptying)) refl cause.0 cause.1 tt tt
   planned-next (Asks outside) may cause =
       waits-for scenes (frame.Call (Doing q c)) (frame.Call (Turning q)) b ws p p (frame.Outside (Reaching outside)) (record { stays = λ y l. l; free = λ y h. h; run = λ P h. h }) (later-same p) tt tt cause may known
-  planned-next Turns may cause = turning-fine scenes q c b ws p known cause
+  planned-next (Turns x) may cause = turning-fine scenes q x c b ws p may known cause
   planned-next (Works change errand x) may cause = works errand may.3
     where
       begun-work : (g : RequestFrame) → Cause scenes (frame.Request g) None (with_note (Some begun) (frame.Call (Requesting q)) ∷ ws) (changed_by change p)
@@ -288,4 +295,5 @@ module _ (scenes : List Scene) (q : Ask) (c : Call) (b : Option CallStart) (ws :
 
 pub doing-fine : (scenes : List Scene) (q : Ask) (c : Call) (b : Option CallStart) (ws : List NotedWork) (p : Pool) → Sound (frame.Call (Doing q c)) (map work_of ws) p
     → Known scenes (with_note b (frame.Call (Doing q c))) ws p → FineBy scenes (frame.Call (Doing q c)) b p (step (frame.Call (Doing q c)) p) ws
-doing-fine scenes q c b ws p s known = planned-next scenes q c b ws p known (planned p c) (may-planned (frame.Call (Doing q c)) (map work_of ws) p s c) (caused-planned p c s.forest.distinct s.refers)
+doing-fine scenes q c b ws p s known = planned-next scenes q c b ws p known (planned_at q p c) (may-planned-at (frame.Call (Doing q c)) (map work_of ws) p s q c)
+    (planned-at-by (CausedBy p c) q p c (caused-planned p c s.forest.distinct s.refers) (caused-nested q p c))

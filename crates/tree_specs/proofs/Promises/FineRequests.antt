@@ -1,5 +1,5 @@
 -- Each step of a request's work, and of a free that waits for it, tells what is fine.
-use Rattle.std.proofs.Common.{◌≡◌, ℕ, ◌≤◌, ◌<◌, List, [], ◌∷◌, ◌++◌, Option, Some, None, true, false, map, refl, ◌∙◌, arith}
+use Rattle.std.proofs.Common.{◌≡◌, ℕ, ◌≤◌, ◌<◌, List, [], ◌∷◌, ◌++◌, Option, Some, None, true, false, map, refl, ◌∙◌, arith, subst, sym}
 use Rattle.std.specs.Prelude.{not}
 use Rattle.std.specs.List.{list_any}
 use Rattle.step_machine.specs.Machine.{Move as Do}
@@ -29,7 +29,7 @@ use Rattle.tree_specs.specs.declared.frame.FreeFrame.TheVariants.{Beginning, Unl
 use Rattle.tree_specs.specs.declared.frame.RequestFrame.{RequestFrame}
 use Rattle.tree_specs.specs.declared.frame.RequestFrame.TheVariants as request
 use Rattle.tree_specs.specs.declared.frame.Answer.TheVariants as answer
-use Rattle.tree_specs.specs.Tree.Pool.{Pool, row_of, set_mark, schedule, renote, finish, receive, run_queue, trigger}
+use Rattle.tree_specs.specs.Tree.Pool.{Pool, row_of, set_mark, schedule, renote, finish, receive, run_queue, trigger, is_usable}
 use Rattle.tree_specs.specs.Events.Requests.{state_number, note_of, is_noted, is_in_progress, is_received, is_unreceived, cleanup_in, cancel_in, cleaned, not_deferring, in_state, renoted}
 use Rattle.tree_specs.specs.Events.Coming.{handler_moment, plainly}
 use Rattle.tree_specs.specs.Calls.Refusals as refusals
@@ -41,9 +41,9 @@ use Rattle.tree_specs.specs.Rules.Items.Item.{Told}
 use Rattle.tree_specs.specs.Rules.Sequence.{CallStart, Scene}
 use Rattle.tree_specs.specs.Rules.Errands.{reply_to, cancelled_reply}
 use Rattle.tree_specs.specs.Machine.Profiles.{InRun}
-use Rattle.tree_specs.specs.Machine.Table.{notes, step, over_step, cancelling_step, cleaning_step, release_object, cleaned_step, callback_step, notifying_step, request_step, vacating_step, triggering_step}
+use Rattle.tree_specs.specs.Machine.Table.{notes, step, over_step, cancelling_step, cleaning_step, release_object, cleaned_step, callback_step, notifying_step, request_step, vacating_step, triggering_step, deferred_step}
 use Rattle.tree_specs.specs.Promises.Orderly.{has_state_from, is_hook}
-use Rattle.tree_specs.specs.Promises.Grounded.{IsTurn, may_fire, may_fire_row}
+use Rattle.tree_specs.specs.Promises.Grounded.{InContext, IsTurn, may_fire, may_fire_row}
 use Rattle.tree_specs.specs.Invariants.Sound.{ValidAt, claims}
 use Rattle.tree_specs.specs.Invariants.Noted.{IsInProgress, IsBetween, IsOfRequest, NotesHold, IsForRequest}
 use Rattle.tree_specs.specs.Invariants.Queued.{IsEntryRow}
@@ -77,6 +77,12 @@ request-fires what.Cancel _ m h e = cc
 request-fires _ k m h e = absurd h
 
 -- these routines aren't triggers
+no-context : (w : What) (p : Pool) (x : Obj) → IsOfRequest w → InContext w p x
+no-context what.Callback p x h = tt
+no-context what.Cleanup p x h = tt
+no-context what.Cancel p x h = tt
+no-context _ p x h = absurd h
+
 no-turn : (w : What) (p : Pool) (x : Obj) (routine : ℕ) → IsOfRequest w → IsTurn w p x routine
 no-turn what.Callback p x routine h = tt
 no-turn what.Cleanup p x routine h = tt
@@ -100,7 +106,7 @@ request-no-hook _ h = refl
 going-not : (p : Pool) (x : Obj) → NotesHold None p → is_request_row (row_of p.rows x) ≡ true → IsInProgress p x → (k : ℕ) → 2 ≤ k → IsFrom k (note_of p.requests x) → ⊥
 going-not p x h row going k l from = each (note_of p.requests x) refl
   where
-    states : (s : State) → refusals.in_state x is_in_progress (Some (record { state = s; error = 0; callback = None; deferred = false; cleanup = 0; cleaned = 0; cancel = 0; child = x })) ≡ [] → k ≤ state_number s → ⊥
+    states : (s : State) → refusals.in_state x is_in_progress (Some (record { state = s; error = 0; callback = None; deferred = None; cleanup = 0; cleaned = 0; cancel = 0; child = x })) ≡ [] → k ≤ state_number s → ⊥
     states state.InProgress e m = absurd (omega arith)
     states _ e m = cc
 
@@ -219,7 +225,7 @@ module _ (scenes : List Scene) (b : Option CallStart) (ws : List NotedWork) (p :
       let r : Row = row.0 in
       let fires : may_fire_row w (row_of p.rows x) ≡ true = rw row.1 (request-fires w r.kind r.mark whole.noted.works.1 row.2) in
       let past = past-tells (told scenes) e f (map work_of ws) p (λ y. refl) (λ y. refl) (λ y. refl) (λ y k. refl) known.past in (
-        (fits-fired (told scenes) w x h.routine (unfreed (told scenes) f (map work_of ws) p x r known.past row.1), record { answered = tt; held = tt; caused = tt; started = (fires, no-turn w p x h.routine whole.noted.works.1) }),
+        (fits-fired (told scenes) w x h.routine (unfreed (told scenes) f (map work_of ws) p x r known.past row.1), record { answered = tt; held = tt; caused = tt; started = (fires, no-turn w p x h.routine whole.noted.works.1, no-context w p x whole.noted.works.1) }),
         known-told scenes (scene notes f b p e) (with_note None g) ws p
             (past-goes (told scenes ++ e ∷ []) f g (map work_of ws) (map work_of ws) p p past (later-same p) (λ y l. absurd l) tt past.all_account)
             (restacked f g ws (λ w h. h) (λ w h. h) known.stacked) tt,
@@ -256,18 +262,24 @@ module _ (scenes : List Scene) (b : Option CallStart) (ws : List NotedWork) (p :
   notifying-fine : (x : Obj) (errand : Errand) → AtRequest (request.Notifying x errand)
   notifying-fine x errand whole known = each (note_of p.requests x)
     where
-      q : Pool
-      q = schedule (renote p x not_deferring) x
-
       back : (o : Option Handler) → FineBy scenes (frame.Request (request.Notifying x errand)) b p (callback_step x errand o p) ws
       back None = over (request.Notifying x errand) errand p (later-same p) known
       back (Some handler) = goes (request.Notifying x errand) (request.Calling what.Callback x handler errand) p (later-same p) tt known
 
+      to : (q : Pool) → q ≡ record (renote p x not_deferring) { soon = q.soon } → FineBy scenes (frame.Request (request.Notifying x errand)) b p (over_step errand q) ws
+      to q is = subst (λ (z : Pool). FineBy scenes (frame.Request (request.Notifying x errand)) b p (over_step errand z) ws) (sym is)
+          (let r : Pool = record (renote p x not_deferring) { soon = q.soon } in
+          over (request.Notifying x errand) errand r (later-noted p r refl (omega arith) (states-renoted not_deferring p r x refl (λ m e. omega arith))) known)
+
+      deferred : (o : Option Obj) (callback : Option Handler) → FineBy scenes (frame.Request (request.Notifying x errand)) b p (deferred_step x errand o callback p) ws
+      deferred None callback = back callback
+      deferred (Some c) callback = by_test (is_usable p.rows c)
+          (λ t. rw t (to (schedule (renote p x not_deferring) x c) refl))
+          (λ t. rw t (to (renote p x not_deferring) refl))
+
       each : (o : Option Note) → FineBy scenes (frame.Request (request.Notifying x errand)) b p (notifying_step x errand o p) ws
       each None = over (request.Notifying x errand) errand p (later-same p) known
-      each (Some n) = by_test n.deferred
-          (λ t. rw t (over (request.Notifying x errand) errand q (later-noted p q refl (omega arith) (states-renoted not_deferring p q x refl (λ m e. omega arith))) known))
-          (λ t. rw t (back n.callback))
+      each (Some n) = deferred n.deferred n.callback
 
   vacating-fine : (q : Obj) → AtRequest (request.Vacating q)
   vacating-fine q whole known = each (head_of p.queues q)
@@ -295,7 +307,7 @@ module _ (scenes : List Scene) (b : Option CallStart) (ws : List NotedWork) (p :
           let row = request-row (row_of p.rows x) w.request in
           let starts : may_fire_row what.Trigger (row_of p.rows x) ≡ true = rw row.1 (trigger-fires row.0.kind row.0.mark row.2) in
           let past = past-tells (told scenes) i f (map work_of ws) p (λ y. refl) (λ y. refl) (λ y. refl) (λ y k. refl) known.past in (
-            (fits-fired (told scenes) what.Trigger x h.entry.trigger.routine (unfreed (told scenes) f (map work_of ws) p x row.0 known.past row.1), record { answered = tt; held = tt; caused = tt; started = (starts, record { queue = q; first = h; next = e; entry = entry-row x (row_of p.rows h.object) w.entry; request = refl; routine = refl }) }),
+            (fits-fired (told scenes) what.Trigger x h.entry.trigger.routine (unfreed (told scenes) f (map work_of ws) p x row.0 known.past row.1), record { answered = tt; held = tt; caused = tt; started = (starts, record { queue = q; first = h; next = e; entry = entry-row x (row_of p.rows h.object) w.entry; request = refl; routine = refl }, tt) }),
             known-told scenes (scene notes f b p i) (with_note None g) ws (trigger p h)
                 (past-goes (told scenes ++ i ∷ []) f g (map work_of ws) (map work_of ws) p (trigger p h) past (later-waiting p (trigger p h) refl refl refl) (λ y l. absurd l) tt past.all_account)
                 (restacked f g ws (λ w h. h) (λ w h. h) known.stacked) tt,

@@ -4,12 +4,14 @@ use Rattle.step_machine.specs.Machine.{Move as Do}
 use Rattle.step_machine.specs.Noted.{scene, with_note, noted_work}
 use Rattle.tree_specs.specs.declared.object.Obj.{Obj}
 use Rattle.tree_specs.specs.declared.row.Row.{Row}
-use Rattle.tree_specs.specs.declared.row.Mark.TheVariants.{Quiet, Busy}
+use Rattle.tree_specs.specs.declared.row.Mark.TheVariants.{Doomed, Quiet, Busy}
+use Rattle.tree_specs.specs.declared.row.Mark.{Mark}
 use Rattle.tree_specs.specs.declared.kind.Kind.{Kind}
 use Rattle.tree_specs.specs.declared.kind.Kind.TheVariants as kind
 use Rattle.tree_specs.specs.declared.handler.Handler.{Handler}
 use Rattle.tree_specs.specs.declared.moment.What.{What}
 use Rattle.tree_specs.specs.declared.moment.What.TheVariants.{Immediate as ForImmediate, Timer as ForTimer, Descriptor as ForDescriptor, Trigger as ForTrigger}
+use Rattle.tree_specs.specs.declared.moment.What.TheVariants as whats
 use Rattle.tree_specs.specs.declared.occasion.Occasion.{Occasion}
 use Rattle.tree_specs.specs.declared.event.Event.TheVariants.{Fired}
 use Rattle.tree_specs.specs.declared.question.Ask.{Ask}
@@ -20,27 +22,28 @@ use Rattle.tree_specs.specs.declared.frame.Frame.TheVariants as frame
 use Rattle.tree_specs.specs.declared.frame.CallFrame.TheVariants.{Asking}
 use Rattle.tree_specs.specs.declared.frame.FreeFrame.TheVariants.{Beginning}
 use Rattle.tree_specs.specs.declared.frame.TurnFrame.{TurnFrame}
-use Rattle.tree_specs.specs.declared.frame.TurnFrame.TheVariants.{Taking, Timing, Timed, Polling, Starting, Firing, Handling, Handled, Clearing, Serving, Closing}
+use Rattle.tree_specs.specs.declared.frame.TurnFrame.TheVariants.{Parting, Taking, Timing, Timed, Polling, Starting, Firing, Handling, Handled, Clearing, Serving, Closing}
 use Rattle.tree_specs.specs.declared.frame.Errand.TheVariants.{Finish, Notify}
 use Rattle.tree_specs.specs.declared.request.State.TheVariants.{TimedOut}
 use Rattle.tree_specs.specs.declared.frame.RequestFrame.TheVariants as request
 use Rattle.tree_specs.specs.declared.frame.Answer.TheVariants as answer
-use Rattle.tree_specs.specs.Tree.Pool.{Pool, row_of, changed, set_mark, marked_row}
+use Rattle.tree_specs.specs.Tree.Pool.{exit, Pool, row_of, changed, set_mark, marked_row}
 use Rattle.tree_specs.specs.Events.Coming.{comes_as, handler_for, handler_moment, begun, goes_after}
 use Rattle.tree_specs.specs.Rules.Items.{Item}
 use Rattle.tree_specs.specs.Rules.Items.Item.{Told, Asked}
 use Rattle.tree_specs.specs.Rules.Sequence.{CallStart, Scene}
-use Rattle.tree_specs.specs.Machine.Table.{Step, notes, taken, starting_step, turn_step, turn_taken}
+use Rattle.tree_specs.specs.Machine.Table.{closing_step, Step, notes, taken, starting_step, turn_step, turn_taken}
 use Rattle.tree_specs.specs.Promises.Orderly.{is_hook, asks_hook}
-use Rattle.tree_specs.specs.Promises.Grounded.{IsTurn, may_fire, may_fire_row}
+use Rattle.tree_specs.specs.Promises.Grounded.{InContext, HasContext, IsTurn, may_fire, may_fire_row}
 use Rattle.tree_specs.specs.Machine.Profiles.{InHandler}
-use Rattle.tree_specs.specs.Invariants.Sound.{claims}
+use Rattle.tree_specs.specs.Invariants.Sound.{is_at_turn_mark, IsTurning, IsLive, claims}
 use Rattle.tree_specs.specs.Invariants.Consistent.{IsConsistent}
+use Rattle.tree_specs.specs.Calls.Refusals.{is_doomed}
 use Rattle.tree_specs.proofs.Tree.Numbered.{by_test}
-use Rattle.tree_specs.proofs.Invariants.Changes.{handling-row, claim-here}
+use Rattle.tree_specs.proofs.Invariants.Changes.{turning-row, handling-row, claim-here}
 use Rattle.tree_specs.proofs.Invariants.Turning.{handler-ready, rotated-rows, Passes, Pass, Serve, look-passes, taken-plain, Trigger}
 use Rattle.tree_specs.proofs.Invariants.Waiters.{Waiter, ForRun}
-use Rattle.tree_specs.proofs.Promises.Later.{Later, later-rows, later-same, later-waiting, later-marked}
+use Rattle.tree_specs.proofs.Promises.Later.{later-still, Later, later-rows, later-same, later-waiting, later-marked}
 use Rattle.tree_specs.proofs.Promises.Past.{Past, Accounts, past-goes, past-tells, unfreed}
 use Rattle.tree_specs.proofs.Promises.Causes.{NotedWork, told, StandsOn, Cause}
 use Rattle.tree_specs.proofs.Promises.Fitting.{fits-fired, fits-question}
@@ -77,11 +80,11 @@ module _ (scenes : List Scene) (b : Option CallStart) (ws : List NotedWork) (p :
   begins f g h q later account on cause known = waits-for scenes (frame.Turn f) (frame.Turn g) b ws p q h (turn-yields f g) later account tt on cause known
 
   passes : (f : TurnFrame) (m : Step) → Passes p m → Known scenes (with_note b (frame.Turn f)) ws p → FineBy scenes (frame.Turn f) b p m ws
-  passes f _ (Pass g q rows next notes-are queues times plain) known = goes f g q (later-waiting p q rows next notes-are) known
-  passes f _ (Trigger x q rows next notes-are queues times queue) known = begins f (Serving x) (frame.Request (request.Triggering x)) q (later-waiting p q rows next notes-are) tt tt tt known
-  passes f _ (Serve Notify x q rows next notes-are queues times served noted) known = begins f (Serving x) (frame.Request (request.Notifying x Notify)) q (later-waiting p q rows next notes-are) tt tt tt known
-  passes f _ (Serve (Finish TimedOut) x q rows next notes-are queues times served noted) known = begins f (Serving x) (frame.Request (request.Finishing x TimedOut)) q (later-waiting p q rows next notes-are) tt tt tt known
-  passes f _ (Serve _ x q rows next notes-are queues times served noted) known = absurd served
+  passes f _ (Pass g q rows next notes-are queues turning times plain) known = goes f g q (later-waiting p q rows next notes-are) known
+  passes f _ (Trigger x q rows next notes-are queues turning times queue) known = begins f (Serving x) (frame.Request (request.Triggering x)) q (later-waiting p q rows next notes-are) tt tt tt known
+  passes f _ (Serve Notify x q rows next notes-are queues turning times served noted) known = begins f (Serving x) (frame.Request (request.Notifying x Notify)) q (later-waiting p q rows next notes-are) tt tt tt known
+  passes f _ (Serve (Finish TimedOut) x q rows next notes-are queues turning times served noted) known = begins f (Serving x) (frame.Request (request.Finishing x TimedOut)) q (later-waiting p q rows next notes-are) tt tt tt known
+  passes f _ (Serve _ x q rows next notes-are queues turning times served noted) known = absurd served
 
   -- it asks no destructor, and goes on as a turn
   asks : (f : TurnFrame) (q : Ask) → ((y : Obj) → asks_hook y (Asked q) ≡ false) → ((i : Input) (g : Frame) → turn_taken f p i ≡ Some g → (t : TurnFrame) × (g ≡ frame.Turn t))
@@ -125,6 +128,13 @@ module _ (scenes : List Scene) (b : Option CallStart) (ws : List NotedWork) (p :
   no-turn ForTrigger k e x routine = cc
   no-turn _ k e x routine = tt
 
+  -- it comes in a turn of its context
+  at-home : (w : What) (k : Kind) → comes_as w k ≡ true → (x : Obj) → HasContext p x → InContext w p x
+  at-home whats.Timer k e x home = home
+  at-home whats.Immediate k e x home = home
+  at-home whats.Descriptor k e x home = home
+  at-home _ k e x home = tt
+
   firing-fine : (w : What) (x : Obj) (h : Handler) (occasion : Occasion) → AtTurn (Firing w x h occasion)
   firing-fine w x h occasion whole known =
       let f : Frame = frame.Turn (Firing w x h occasion) in
@@ -134,7 +144,7 @@ module _ (scenes : List Scene) (b : Option CallStart) (ws : List NotedWork) (p :
       let r : Row = rests.1 in
       let fires : may_fire_row w (row_of p.rows x) ≡ true = rw (rests.2, rests.4) (comes-fires w r.kind rests.3) in
       let past = past-tells (told scenes) e f (map work_of ws) p (λ y. refl) (λ y. refl) (λ y. refl) (λ y k. refl) known.past in (
-        (fits-fired (told scenes) w x h.routine (unfreed (told scenes) f (map work_of ws) p x r known.past rests.2), record { answered = tt; held = tt; caused = tt; started = (fires, no-turn w r.kind rests.3 x h.routine) }),
+        (fits-fired (told scenes) w x h.routine (unfreed (told scenes) f (map work_of ws) p x r known.past rests.2), record { answered = tt; held = tt; caused = tt; started = (fires, no-turn w r.kind rests.3 x h.routine, at-home w r.kind rests.3 x (h, rests.5, rests.6)) }),
         known-told scenes (scene notes f b p e) (with_note None g) ws p
             (past-goes (told scenes ++ e ∷ []) f g (map work_of ws) (map work_of ws) p p past (later-same p) (λ y l. absurd l) tt past.all_account)
             (restacked f g ws (λ w h. h) (λ w h. h) known.stacked) tt,
@@ -149,13 +159,36 @@ module _ (scenes : List Scene) (b : Option CallStart) (ws : List NotedWork) (p :
       (λ t. rw t (goes (Handled w x) (Closing 1) (set_mark p x Quiet) later known))
 
   closing-fine : (v : ℕ) → AtTurn (Closing v)
-  closing-fine v whole known =
-      resumed scenes (frame.Turn (Closing v)) b ws p (answer.Turned v) known.past (λ y l. l) known.stacked whole.sound.waiting
-      (of-next (AnswersTo scenes (answer.Turned v)) (frame.Turn (Closing v)) ws whole.sound.waiting known.stacked answers)
+  closing-fine v whole known = each p.turning refl
     where
-      answers : (g : Frame) (n : Option CallStart) → Waiter g → StandsOn (frame.Turn (Closing v)) g n → AnswersTo scenes (answer.Turned v) g n
+      f : Frame
+      f = frame.Turn (Closing v)
+
+      answers : (g : Frame) (n : Option CallStart) → Waiter g → StandsOn f g n → AnswersTo scenes (answer.Turned v) g n
       answers _ n (ForRun x h) on = absurd on
       answers _ n _ on = tt
+
+      over : (q : Pool) → Later p q → FineBy scenes f b p (Do.Done (answer.Turned v) q) ws
+      over q later =
+          resumed scenes f b ws q (answer.Turned v) (past-goes (told scenes) f f (map work_of ws) (map work_of ws) p q known.past later (λ x l. absurd l) tt known.past.all_account) (λ y l. l) known.stacked whole.sound.waiting
+          (of-next (AnswersTo scenes (answer.Turned v)) f ws whole.sound.waiting known.stacked answers)
+
+      live : (m : Mark) → is_at_turn_mark m ≡ true → IsLive m
+      live Busy t = tt
+      live Doomed t = tt
+      live _ t = cc
+
+      out : (c : Obj) (o : Option Row) → row_of p.rows c ≡ o → IsTurning o → Later p (exit p c)
+      out c None e t = absurd t
+      out c (Some r) e t = later-still (later-waiting p (record p { turning = None }) refl refl refl) (later-marked (record p { turning = None }) c r Quiet e (live r.mark t.1))
+
+      each : (o : Option Obj) → p.turning ≡ o → FineBy scenes f b p (closing_step v o p) ws
+      each None e = over p (later-same p)
+      each (Some c) e =
+          let later = out c (row_of p.rows c) refl (turning-row p.turning p.rows c (row_of p.rows c) whole.sound.turned e refl) in
+          by_test (is_doomed p c)
+          (λ d. rw d (begins (Closing v) (Parting c v) (frame.Free (Beginning c)) (exit p c) later tt tt tt known))
+          (λ d. rw d (over (exit p c) later))
 
   pub turn-fine : (f : TurnFrame) → AtTurn f
   turn-fine Taking whole known = passes Taking _ (look-passes Taking p tt) known
@@ -169,4 +202,5 @@ module _ (scenes : List Scene) (b : Option CallStart) (ws : List NotedWork) (p :
   turn-fine (Handled w x) whole known = handled-fine w x whole known
   turn-fine (Clearing x) whole known = absurd whole.sound.rests
   turn-fine (Serving x) whole known = absurd whole.sound.rests
+  turn-fine (Parting c v) whole known = absurd whole.sound.rests
   turn-fine (Closing v) whole known = closing-fine v whole known

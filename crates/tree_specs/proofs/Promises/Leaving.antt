@@ -18,7 +18,7 @@ use Rattle.tree_specs.specs.declared.question.Input.{Input}
 use Rattle.tree_specs.specs.declared.free_step.FreeReply.{FreeReply}
 use Rattle.tree_specs.specs.declared.free_step.FreeReply.TheVariants as free_reply
 use Rattle.tree_specs.specs.Tree.Targets.{newest_ref}
-use Rattle.tree_specs.specs.Tree.Pool.{Pool, row_of, remove, set_mark, set_hook}
+use Rattle.tree_specs.specs.Tree.Pool.{enter, Pool, row_of, remove, set_mark, set_hook}
 use Rattle.tree_specs.specs.Calls.Refusals.{Check, refusals}
 use Rattle.tree_specs.specs.declared.request.Note.{Note}
 use Rattle.tree_specs.specs.declared.request.State.{State}
@@ -199,7 +199,7 @@ plan-leaves n (Empties x) why p q is left told done e =
     let e' : Ended reply.Ok w.1 [] w.4 ≡ Ended (reply.No why) q w.3 left = w.6 in
     cc
 plan-leaves n (Asks outside) why p q is left told done e = reaching-answers n outside (reply.No why) p q is left told e
-plan-leaves n Turns why p q is left told done e = never-refused (taking n) why p q is left told e
+plan-leaves n (Turns c) why p q is left told done e = never-refused (taking n) why (enter p c) q is left told e
 plan-leaves n (Works change errand x) why p q is left told done e = work-said n (all-lawful n) errand x why (changed_by change p) q is left told e
 
 refused-leaves : (c : Call) (why : Refusal) (p q : Pool) (is left : List Input) (told : List Scene) → Untouched p q is left told → LeftByRefused c why p q is left told

@@ -19,7 +19,7 @@ use Rattle.tree_specs.specs.declared.reply.Reply.TheVariants as reply
 use Rattle.tree_specs.specs.declared.reply.Refusal.TheVariants as refusal
 use Rattle.tree_specs.specs.declared.free_step.FreeReply.{FreeReply}
 use Rattle.tree_specs.specs.declared.free_step.FreeReply.TheVariants as free_reply
-use Rattle.tree_specs.specs.Tree.Pool.{Pool}
+use Rattle.tree_specs.specs.Tree.Pool.{enter, Pool}
 use Rattle.tree_specs.specs.Tree.Targets.{newest_ref}
 use Rattle.tree_specs.specs.Tree.Forest.{Distinct}
 use Rattle.tree_specs.specs.Calls.Refusals.{Check, refusals, tests, is_running}
@@ -100,7 +100,7 @@ plan-runs n (Empties y) x p q is left told d own e =
     cc
 plan-runs n (Asks outside) x p q is left told d own e = absurd (reaching-answers n outside (reply.No (refusal.Running x)) p q is left told e)
 plan-runs n (Works change errand y) x p q is left told d own e = absurd (work-said n (all-lawful n) errand y (refusal.Running x) (changed_by change p) q is left told e)
-plan-runs n Turns x p q is left told d own e = absurd (never-refused (taking n) (refusal.Running x) p q is left told e)
+plan-runs n (Turns c) x p q is left told d own e = absurd (never-refused (taking n) (refusal.Running x) (enter p c) q is left told e)
 
 pub call-runs : (n : ℕ) (c : Call) (x : Obj) (p q : Pool) (is left : List Input) (told : List Scene) → Distinct p.rows
     → effect (free n) (unlink n) (children n) (reaching n) (turned AtRest (taking n)) (work_by (finishing n) (notifying n) (receiving n) (cancelling n)) (planned p c) p is ≡ Ended (reply.No (refusal.Running x)) q told left → is_running p x ≡ true

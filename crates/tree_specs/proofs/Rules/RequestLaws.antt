@@ -18,9 +18,9 @@ use Rattle.tree_specs.specs.declared.request.State.{State}
 use Rattle.tree_specs.specs.declared.request.State.TheVariants.{UserError, Received}
 use Rattle.tree_specs.specs.declared.frame.Errand.{Errand}
 use Rattle.tree_specs.specs.declared.frame.Errand.TheVariants.{Finish, Notify, Receive, Cancel}
-use Rattle.tree_specs.specs.Tree.Pool.{Pool, schedule, renote, finish, receive, run_queue, trigger}
+use Rattle.tree_specs.specs.Tree.Pool.{Pool, renote, finish, receive, run_queue, trigger, schedule_deferred}
 use Rattle.tree_specs.specs.Events.Coming.{handler_moment, plainly}
-use Rattle.tree_specs.specs.Events.Requests.{state_number, note_of, is_unreceived, cleanup_in, cancel_in, cleaned as is_cleaned, not_deferring}
+use Rattle.tree_specs.specs.Events.Requests.{state_number, note_of, is_unreceived, cleanup_in, cancel_in, cleaned as is_cleaned}
 use Rattle.tree_specs.specs.Calls.Plans.{Plan, planned}
 use Rattle.tree_specs.specs.Calls.Plans.Plan.{Frees, Unlinks}
 use Rattle.tree_specs.specs.Rules.Items.Item.{Told}
@@ -86,15 +86,17 @@ notifying-lawful n ih x errand p last = each (note_of p.requests x) refl
     over-it : (q : Pool) → Lawful last Said (over n (reply_to errand) q)
     over-it q = ih.requests.over (reply_to errand) q last (said-done errand last)
 
-    back : (note : Note) (o : Option Handler) → note.callback ≡ o → note.deferred ≡ false → note_of p.requests x ≡ Some note → Lawful last Said (notifying (suc n) x errand p)
+    back : (note : Note) (o : Option Handler) → note.callback ≡ o → note.deferred ≡ None → note_of p.requests x ≡ Some note → Lawful last Said (notifying (suc n) x errand p)
     back note None c t e = same-lawful last Said (notifying (suc n) x errand p) (over n (reply_to errand) p) (λ js. rw (e, t, c) refl) (over-it p)
     back note (Some handler) c t e = same-lawful last Said (notifying (suc n) x errand p) (calling n what.Callback x handler errand p) (λ js. rw (e, t, c) refl) (ih.requests.calling what.Callback x handler errand p last)
 
+    deferred : (note : Note) (o : Option Obj) → note.deferred ≡ o → note_of p.requests x ≡ Some note → Lawful last Said (notifying (suc n) x errand p)
+    deferred note None t e = back note note.callback refl t e
+    deferred note (Some c) t e = same-lawful last Said (notifying (suc n) x errand p) (over n (reply_to errand) (schedule_deferred p x c)) (λ js. rw (e, t, e) refl) (over-it (schedule_deferred p x c))
+
     each : (o : Option Note) → note_of p.requests x ≡ o → Lawful last Said (notifying (suc n) x errand p)
     each None e = same-lawful last Said (notifying (suc n) x errand p) (over n (reply_to errand) p) (λ js. rw e refl) (over-it p)
-    each (Some note) e = by_test note.deferred
-        (λ t. same-lawful last Said (notifying (suc n) x errand p) (over n (reply_to errand) (schedule (renote p x not_deferring) x)) (λ js. rw (e, t, e) refl) (over-it (schedule (renote p x not_deferring) x)))
-        (λ t. back note note.callback refl t e)
+    each (Some note) e = deferred note note.deferred refl e
 
 pub calling-lawful : (n : ℕ) → AllLawful n → (w : What) (x : Obj) (handler : Handler) (errand : Errand) (p : Pool) (last : Last) → Lawful last Said (calling (suc n) w x handler errand p)
 calling-lawful n ih w x handler errand p last =

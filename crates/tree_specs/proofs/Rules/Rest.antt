@@ -1,7 +1,6 @@
 -- The laws of the story still to come.
 use Rattle.std.proofs.Common.{◌≡◌, ℕ, suc, zero, ◌+◌, ◌*◌, ◌<◌, ◌≤◌, List, [], ◌∷◌, length, Bool, true, false, Option, Some, None, refl, sym, ◌∙◌, ap, subst, arith}
-use Rattle.step_machine.specs.Machine.{Move, Outcome, State, silent, tell, given, asks, leads, rest, walk, items as told_by}
-use Rattle.step_machine.specs.Machine.{Move as Do}
+use Rattle.step_machine.specs.Machine.{Move, Outcome, State, silent, tell, given, asks, leads, rest, walk, items as told_by, Move as Do}
 use Rattle.step_machine.specs.Machine.Outcome.{Ended, Waits, Stray, Short}
 use Rattle.step_machine.specs.Open.{LastIs}
 use Rattle.step_machine.proofs.Ends.{NotShort, Leads, enough, rest-walk, rest-any, rest-step, rest-event, rest-question, rest-silent, rest-open, silent-leads}
@@ -11,19 +10,18 @@ use Rattle.tree_specs.specs.declared.frame.Frame.{Frame}
 use Rattle.tree_specs.specs.declared.frame.Frame.TheVariants as frame
 use Rattle.tree_specs.specs.declared.frame.CallFrame.TheVariants.{Asking, Doing, Awaiting, Turning, Requesting, Announcing, Telling, Returning}
 use Rattle.tree_specs.specs.declared.frame.TurnFrame.{TurnFrame}
-use Rattle.tree_specs.specs.declared.frame.TurnFrame.TheVariants.{Taking, Timing, Timed, Polling, Starting, Handled}
+use Rattle.tree_specs.specs.declared.frame.TurnFrame.TheVariants.{Closing, Taking, Timing, Timed, Polling, Starting, Handled}
 use Rattle.tree_specs.specs.declared.handler.Handler.{Handler}
 use Rattle.tree_specs.specs.declared.question.Ask.TheVariants.{Quiet, Clock, Wait}
 use Rattle.tree_specs.specs.Events.Coming.{handler_for, goes_after}
 use Rattle.tree_specs.proofs.Invariants.Turning.{Passes, Pass, Serve, look-passes, Trigger}
-use Rattle.tree_specs.proofs.Tree.Numbered.{by_test}
 use Rattle.tree_specs.specs.declared.call.Call.TheVariants as call
 use Rattle.tree_specs.specs.declared.request.Note.{Note}
 use Rattle.tree_specs.specs.declared.frame.Errand.{Errand}
 use Rattle.tree_specs.specs.declared.frame.Errand.TheVariants.{Receive}
 use Rattle.tree_specs.specs.declared.frame.RequestFrame.{RequestFrame}
 use Rattle.tree_specs.specs.declared.frame.RequestFrame.TheVariants as request
-use Rattle.tree_specs.specs.Events.Requests.{note_of, is_unreceived, cleanup_in, cancel_in, not_deferring}
+use Rattle.tree_specs.specs.Events.Requests.{note_of, is_unreceived, cleanup_in, cancel_in}
 use Rattle.tree_specs.specs.declared.frame.OutsideFrame.{OutsideFrame}
 use Rattle.tree_specs.specs.declared.frame.OutsideFrame.TheVariants.{Reaching}
 use Rattle.tree_specs.specs.declared.watch.Watch.{Watch}
@@ -34,15 +32,16 @@ use Rattle.tree_specs.specs.declared.free_step.FreeStep.{FreeStep}
 use Rattle.tree_specs.specs.declared.event.Event.{Event}
 use Rattle.tree_specs.specs.declared.call.Call.{Call}
 use Rattle.tree_specs.specs.declared.question.Ask.{Ask}
-use Rattle.tree_specs.specs.Tree.Pool.{Pool, schedule, renote, run_queue}
+use Rattle.tree_specs.specs.declared.object.Obj.{Obj}
+use Rattle.tree_specs.specs.Tree.Pool.{Pool, run_queue}
 use Rattle.tree_specs.specs.Rules.Items.{Item, IsQuestion}
 use Rattle.tree_specs.specs.Rules.Items.Item.{Asked}
-use Rattle.tree_specs.specs.Calls.Plans.{Plan, planned, plan, unless_refused}
+use Rattle.tree_specs.specs.Calls.Plans.{Plan, planned, plan, unless_refused, planned_at}
 use Rattle.tree_specs.specs.Calls.Plans.Plan.{Does, Frees, Unlinks, Empties, Asks as AsksOutside, Turns, Works}
 use Rattle.tree_specs.specs.Rules.Story.{turns}
-use Rattle.tree_specs.specs.Calls.Refusals.{Check}
+use Rattle.tree_specs.specs.Calls.Refusals.{is_doomed, Check}
 use Rattle.tree_specs.specs.Machine.FreeTable.{free_step}
-use Rattle.tree_specs.specs.Machine.Table.{Step, call_step, turning_step, starting_step, handled_step, turn_step, outside_step, over_step, cancelling_step, cleaning_step, release_object, cleaned_step, callback_step, notifying_step, receiving_step, request_step, table, step, event_of, announced, plan_step, lifted, taken, vacating_step, triggering_step}
+use Rattle.tree_specs.specs.Machine.Table.{closing_step, parting_step, deferred_step, Step, call_step, turning_step, starting_step, handled_step, turn_step, outside_step, cancelling_step, cleaning_step, release_object, cleaned_step, callback_step, notifying_step, receiving_step, request_step, table, step, event_of, announced, plan_step, lifted, taken, vacating_step, triggering_step}
 use Rattle.tree_specs.specs.Invariants.Sound.{Sound, Rests}
 use Rattle.tree_specs.specs.Invariants.Noted.{Noted}
 use Rattle.tree_specs.specs.Invariants.Measure.{cost}
@@ -222,9 +221,9 @@ GoesOn (Do.Go f p) = IsTelling f
 GoesOn (Do.Call g f p) = Unit {0}
 GoesOn _ = ⊥
 
-turning-goes_on : (q : Ask) (p : Pool) → GoesOn (turning_step q p)
-turning-goes_on Quiet p = tt
-turning-goes_on _ p = tt
+turning-goes_on : (q : Ask) (x : Obj) (p : Pool) → GoesOn (turning_step q x p)
+turning-goes_on Quiet x p = tt
+turning-goes_on _ x p = tt
 
 pub plan-goes_on : (q : Ask) (plan : Plan) (p : Pool) → GoesOn (plan_step q plan p)
 plan-goes_on q (Does change None r) p = tt
@@ -233,7 +232,7 @@ plan-goes_on q (Frees x) p = tt
 plan-goes_on q (Unlinks o x) p = tt
 plan-goes_on q (Empties x) p = tt
 plan-goes_on q (AsksOutside outside) p = tt
-plan-goes_on q Turns p = turning-goes_on q p
+plan-goes_on q (Turns x) p = turning-goes_on q x p
 plan-goes_on q (Works change errand x) p = tt
 
 pub call-goes_on : (check : Check) (q : Ask) (c : Call) (p : Pool) → GoesOn (call_step check q c p)
@@ -254,7 +253,7 @@ no-end (frame.Call (Awaiting ask x)) p q a h r e = r
 no-end (frame.Call (Turning ask)) p q a h r e = r
 no-end (frame.Call (Requesting ask)) p q a h r e = r
 no-end (frame.Call (Returning v)) p q a h r e = h
-no-end (frame.Call (Doing ask c)) p q a h r e = subst GoesOn e (plan-goes_on ask (planned p c) p)
+no-end (frame.Call (Doing ask c)) p q a h r e = subst GoesOn e (plan-goes_on ask (planned_at ask p c) p)
 no-end (frame.Call _) p q a h r e = cc
 no-end _ p q a h r e = h
 
@@ -265,15 +264,15 @@ turn-asks (Polling limit) p q i g e = (Wait limit, cc)
 turn-asks Taking p q i g e = absurd (passes (turn_step Taking p) (look-passes Taking p tt) e)
   where
     passes : (m : Step) → Passes p m → m ≡ Do.Wait i g q → ⊥
-    passes _ (Pass t r rows next notes queues times plain) e = cc
-    passes _ (Trigger x r rows next notes queues times queue) e = cc
-    passes _ (Serve errand x r rows next notes queues times served noted) e = cc
+    passes _ (Pass t r rows next notes queues turning times plain) e = cc
+    passes _ (Trigger x r rows next notes queues turning times queue) e = cc
+    passes _ (Serve errand x r rows next notes queues turning times served noted) e = cc
 turn-asks (Timed again now) p q i g e = absurd (passes (turn_step (Timed again now) p) (look-passes (Timed again now) p tt) e)
   where
     passes : (m : Step) → Passes p m → m ≡ Do.Wait i g q → ⊥
-    passes _ (Pass t r rows next notes queues times plain) e = cc
-    passes _ (Trigger x r rows next notes queues times queue) e = cc
-    passes _ (Serve errand x r rows next notes queues times served noted) e = cc
+    passes _ (Pass t r rows next notes queues turning times plain) e = cc
+    passes _ (Trigger x r rows next notes queues turning times queue) e = cc
+    passes _ (Serve errand x r rows next notes queues turning times served noted) e = cc
 turn-asks (Starting what x occasion) p q i g e = absurd (each (handler_for p what x) e)
   where
     each : (o : Option Handler) → starting_step what x occasion o p ≡ Do.Wait i g q → ⊥
@@ -284,6 +283,15 @@ turn-asks (Handled what x) p q i g e = absurd (each (goes_after p what x) e)
     each : (b : Bool) → handled_step x b p ≡ Do.Wait i g q → ⊥
     each true e = cc
     each false e = cc
+turn-asks (Closing v) p q i g e = absurd (each p.turning e)
+  where
+    each : (o : Option Obj) → closing_step v o p ≡ Do.Wait i g q → ⊥
+    each None e = cc
+    each (Some c) e = parts (is_doomed p c) e
+      where
+        parts : (b : Bool) → parting_step c v b p ≡ Do.Wait i g q → ⊥
+        parts true e = cc
+        parts false e = cc
 turn-asks _ p q i g e = cc
 
 -- a question to the outside is asked
@@ -325,11 +333,13 @@ work-asks (request.Notifying x errand) p q i g e = each (note_of p.requests x) e
     back None e = cc
     back (Some handler) e = cc
 
+    deferred : (o : Option Obj) (callback : Option Handler) → deferred_step x errand o callback p ≡ Do.Wait i g q → ⊥
+    deferred None callback e = back callback e
+    deferred (Some c) callback e = cc
+
     each : (o : Option Note) → notifying_step x errand o p ≡ Do.Wait i g q → ⊥
     each None e = cc
-    each (Some n) e = by_test n.deferred
-        (λ t. let e' : over_step errand (schedule (renote p x not_deferring) x) ≡ Do.Wait i g q = rw t at e in cc)
-        (λ t. let e' : callback_step x errand n.callback p ≡ Do.Wait i g q = rw t at e in back n.callback e')
+    each (Some n) e = deferred n.deferred n.callback e
 work-asks (request.Vacating x) p q i g e = each (head_of p.queues x) e
   where
     each : (o : Option Head) → vacating_step x o (run_queue p x false) ≡ Do.Wait i g q → ⊥
@@ -347,7 +357,7 @@ pub waits-asking : (f : Frame) (p q : Pool) (i : Item) (g : Frame) → step f p 
 waits-asking (frame.Call (Asking ask)) p q i g e = (ask, cc)
 waits-asking (frame.Turn f) p q i g e = turn-asks f p q i g e
 waits-asking (frame.Outside f) p q i g e = outside-asks f p q i g e
-waits-asking (frame.Call (Doing ask c)) p q i g e = absurd (subst GoesOn e (plan-goes_on ask (planned p c) p))
+waits-asking (frame.Call (Doing ask c)) p q i g e = absurd (subst GoesOn e (plan-goes_on ask (planned_at ask p c) p))
 waits-asking (frame.Request f) p q i g e = absurd (work-asks f p q i g e)
 waits-asking (frame.Free f) p q i g e = absurd (free-waits p.ring (free_step f p) q i g e)
 waits-asking _ p q i g e = cc

@@ -35,7 +35,7 @@ use Rattle.tree_specs.proofs.Rules.Rest.{rest-enough, walk-whole, not-short, end
 
 -- nothing waits at the beginning
 pub none-await : (first : ℕ) → Awaits (empty first)
-none-await first = record { events = λ w x h. absurd (none w x h); handlers = λ x e. refl; distinct = tt; watched = λ fd h. cc }
+none-await first = record { events = λ w x h. absurd (none w x h); handlers = λ x e. refl; distinct = tt; watched = λ fd h. cc; contexts = record { soon = λ c h. cc; times = λ c h. cc; ring = λ c h. cc } }
   where
     none : (w : What) (x : Obj) → waits w (empty first) x ≡ true → ⊥
     none Immediate x h = cc
@@ -46,7 +46,7 @@ none-await first = record { events = λ w x h. absurd (none w x h); handlers = �
 -- a host at its beginning
 pub begin-whole : (first : ℕ) → 1 ≤ first → IsConsistent (begin first)
 begin-whole first h = record {
-  sound = record { started = omega arith; valid = λ x. tt; forest = forest-none; refers = record { target = λ r t e. cc; quiet = λ r t e. cc }; open_frees = λ x. refl; waiting = tt; rests = tt };
+  sound = record { started = omega arith; valid = λ x. tt; forest = forest-none; refers = record { target = λ r t e. cc; quiet = λ r t e. cc }; open_frees = λ x. refl; waiting = tt; turned = tt; rests = tt };
   seated = tt;
   light = omega arith;
   noted = record { pool = record { notes = λ x. refl; timed = λ x t. cc; ready = λ x t. cc }; works = tt };

@@ -22,11 +22,11 @@ use Rattle.tree_specs.specs.declared.question.Ask.TheVariants as ask
 use Rattle.tree_specs.specs.declared.question.Input.{Input}
 use Rattle.tree_specs.specs.declared.free_step.FreeReply.{FreeReply}
 use Rattle.tree_specs.specs.declared.free_step.FreeReply.TheVariants as free_reply
-use Rattle.tree_specs.specs.Tree.Pool.{Pool, row_of, is_below, owner_of, first_kid, detach, remove, place, set_mark, doom, set_hook, target_at, newest_ref_of, noted_owner, is_inside, open_descriptor}
+use Rattle.tree_specs.specs.Tree.Pool.{enter, Pool, row_of, is_below, owner_of, first_kid, detach, remove, place, set_mark, doom, set_hook, target_at, newest_ref_of, noted_owner, is_inside, open_descriptor}
 use Rattle.tree_specs.specs.Tree.Heirs.{heir}
 use Rattle.tree_specs.specs.Rules.Items.Item.{Told}
 use Rattle.tree_specs.specs.Rules.Sequence.{Work, Scene, CallStart}
-use Rattle.tree_specs.specs.Calls.Plans.{Plan, planned, notice_of, changed_by}
+use Rattle.tree_specs.specs.Calls.Plans.{Plan, notice_of, changed_by, planned_at}
 use Rattle.tree_specs.specs.Calls.Plans.Plan.{Does, Frees, Unlinks, Empties, Asks, Turns, Works}
 use Rattle.tree_specs.specs.Calls.Refusals.{is_request, is_queue}
 use Rattle.tree_specs.specs.Rules.Answers.{hook_moment, later, heard, reached}
@@ -37,7 +37,7 @@ use Rattle.tree_specs.proofs.Tree.Numbered.{by_test}
 use Rattle.tree_specs.proofs.Calls.Checks.{heard-by, Reaches, IsOpened, IsTold, IsAnswered, reached-by}
 use Rattle.tree_specs.proofs.Rules.Lawful.{Last, last_after, After, Lawful, Any, Said, same-lawful, ended-lawful, short-lawful, told-lawful, followed-lawful, asks-lawful, Returned, returned-later, scene_of, AllLawful}
 use Rattle.tree_specs.proofs.Rules.RequestLaws.{finishing-lawful, receiving-lawful, cancelling-lawful, cleaning-lawful, cleaned-lawful, notifying-lawful, calling-lawful, called-lawful, work-lawful, vacating-lawful, triggering-lawful}
-use Rattle.tree_specs.proofs.Rules.TurnLaws.{clocked-lawful, taking-lawful, timed-lawful, polling-lawful, starting-lawful, firing-lawful, handling-lawful, handled-lawful}
+use Rattle.tree_specs.proofs.Rules.TurnLaws.{closing-lawful, clocked-lawful, taking-lawful, timed-lawful, polling-lawful, starting-lawful, firing-lawful, handling-lawful, handled-lawful}
 
 weaker : {A : Type 0} (last : Last) (P Q : A → Last → Type 0) (go : List Input → Outcome A Pool Input Scene) → ((v : A) (l : Last) → P v l → Q v l) → Lawful last P go → Lawful last Q go
 weaker {A = A} last P Q go h w = record { accepts = λ is. each is (go is) (w.accepts is); uses = w.uses }
@@ -186,9 +186,9 @@ asked-lawful n ih q p last = asks-lawful last (Returned q) q (heard q (acting n 
 numbered-lawful : (w : Work ℕ) (p : Pool) (last : Last) → Lawful last Any (w p) → Lawful last Any (numbered w p)
 numbered-lawful w p last h = followed-lawful last Any Any (w p) _ h (λ v q l k. ended-lawful l Any _ q tt)
 
-turned-lawful : (q : Ask) (w : Work ℕ) (p : Pool) (last : Last) → Lawful last Any (w p) → Lawful last Any (turned q w p)
-turned-lawful ask.Quiet w p last h = numbered-lawful w p last h
-turned-lawful _ w p last h = ended-lawful last Any _ p tt
+turned-lawful : (q : Ask) (w : Work ℕ) (c : Obj) (p : Pool) (last : Last) → Lawful last Any (w (enter p c)) → Lawful last Any (turned q w c p)
+turned-lawful ask.Quiet w c p last h = numbered-lawful w (enter p c) last h
+turned-lawful _ w c p last h = ended-lawful last Any _ p tt
 
 plan-lawful : (n : ℕ) → AllLawful n → (q : Ask) (plan : Plan) (p : Pool) (last : Last) → Lawful last Any (effect (free n) (unlink n) (children n) (reaching n) (turned q (taking n)) (work_by (finishing n) (notifying n) (receiving n) (cancelling n)) plan p)
 plan-lawful n ih q (Does change notice r) p last = ended-lawful last Any r (changed_by change p) tt
@@ -196,24 +196,24 @@ plan-lawful n ih q (Frees x) p last = followed-lawful last Any Any (free n x p) 
 plan-lawful n ih q (Unlinks o x) p last = followed-lawful last Any Any (unlink n o x p) _ (ih.frees.unlink o x p last) (λ a q l k. ended-lawful l Any _ q tt)
 plan-lawful n ih q (Empties x) p last = followed-lawful last Any Any (children n x p) _ (ih.frees.children x p last) (λ a q l k. ended-lawful l Any _ q tt)
 plan-lawful n ih q (Asks outside) p last = ih.outside.reaching outside p last
-plan-lawful n ih q Turns p last = turned-lawful q (taking n) p last (ih.turns.taking p last)
+plan-lawful n ih q (Turns c) p last = turned-lawful q (taking n) c p last (ih.turns.taking (enter p c) last)
 plan-lawful n ih q (Works change errand x) p last = weaker last Said Any (work_by (finishing n) (notifying n) (receiving n) (cancelling n) errand x (changed_by change p)) (λ r l s. tt) (work-lawful n ih errand x (changed_by change p) last)
 
 acting-lawful : (n : ℕ) → AllLawful n → (q : Ask) (c : Call) (p : Pool) (last : Last) → Lawful last (Returned q) (acting (suc n) q c p)
-acting-lawful n ih q c p last = each (notice_of (planned p c)) refl
+acting-lawful n ih q c p last = each (notice_of (planned_at q p c)) refl
   where
     done : Work Reply
-    done = effect (free n) (unlink n) (children n) (reaching n) (turned q (taking n)) (work_by (finishing n) (notifying n) (receiving n) (cancelling n)) (planned p c)
+    done = effect (free n) (unlink n) (children n) (reaching n) (turned q (taking n)) (work_by (finishing n) (notifying n) (receiving n) (cancelling n)) (planned_at q p c)
 
-    each : (o : Option Notice) → notice_of (planned p c) ≡ o → Lawful last (Returned q) (acting (suc n) q c p)
+    each : (o : Option Notice) → notice_of (planned_at q p c) ≡ o → Lawful last (Returned q) (acting (suc n) q c p)
     each None k = same-lawful last (Returned q) (acting (suc n) q c p)
         (λ js. followed (done p js) (λ r p' left. telling n (Some (record { call = c; start = p })) (later q r) r p' left)) (λ js. rw k refl)
         (followed-lawful last Any (Returned q) (done p) (λ r p' left. telling n (Some (record { call = c; start = p })) (later q r) r p' left)
-        (plan-lawful n ih q (planned p c) p last) (λ r p' l w. ih.calls.later q r (Some (record { call = c; start = p })) p' l))
+        (plan-lawful n ih q (planned_at q p c) p last) (λ r p' l w. ih.calls.later q r (Some (record { call = c; start = p })) p' l))
     each (Some notice) k = same-lawful last (Returned q) (acting (suc n) q c p)
         (λ js. followed (done p js) (λ r p' left. announcing n (Some (record { call = c; start = p })) (later q r) notice r p' left)) (λ js. rw k refl)
         (followed-lawful last Any (Returned q) (done p) (λ r p' left. announcing n (Some (record { call = c; start = p })) (later q r) notice r p' left)
-        (plan-lawful n ih q (planned p c) p last) (λ r p' l w. ih.calls.announcing q notice r (Some (record { call = c; start = p })) p' l))
+        (plan-lawful n ih q (planned_at q p c) p last) (λ r p' l w. ih.calls.announcing q notice r (Some (record { call = c; start = p })) p' l))
 
 announcing-lawful : (n : ℕ) → AllLawful n → (q : Ask) (notice : Notice) (r : Reply) (about : Option CallStart) (p : Pool) (last : Last) → Lawful last (Returned q) (announcing (suc n) about (later q r) notice r p)
 announcing-lawful n ih q notice r about p last = each notice
@@ -319,7 +319,7 @@ all-lawful (suc n) =
         firing = firing-lawful n ih;
         handling = handling-lawful n ih;
         handled = handled-lawful n ih;
-        closing = λ v p last. ended-lawful last Any v p tt;
+        closing = λ v p last. closing-lawful n ih v p last;
       };
       outside = record {
         reaching = reaching-lawful n ih;

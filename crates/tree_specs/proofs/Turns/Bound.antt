@@ -26,10 +26,11 @@ use Rattle.tree_specs.specs.declared.frame.RequestFrame.TheVariants as request
 use Rattle.tree_specs.specs.Events.Requests.{Notes}
 use Rattle.tree_specs.proofs.Events.NoteLaws.{note_weight-most}
 use Rattle.tree_specs.specs.Tree.Inside.{total}
-use Rattle.tree_specs.specs.Invariants.Measure.{mark_weight, weight, below_cost, look_cost, top_cost, cost, pending}
+use Rattle.tree_specs.specs.Invariants.Measure.{turning_cost, mark_weight, weight, below_cost, look_cost, top_cost, cost, pending}
 use Rattle.tree_specs.proofs.Tree.Rows.{count-length}
 use Rattle.tree_specs.proofs.Turns.FallingFrees.{kids-most}
-use Rattle.tree_specs.proofs.Turns.Load.{mark_deposit-most}
+use Rattle.tree_specs.proofs.Turns.LoadFrees.{mark_deposit-most}
+use Rattle.tree_specs.proofs.Turns.Lowering.{turning-most}
 
 -- ---- the measure against the number of turns
 
@@ -41,7 +42,7 @@ look_rounds _ = 4
 record Fits (f : Profile) : Type 0 where
   waiting : f.waiting_cost ≤ 3 * f.size
   rounds : f.cost.rounds + look_rounds f.cost.looks ≤ 24
-  steps : f.cost.steps ≤ 147
+  steps : f.cost.steps ≤ 155
   adds : f.adds ≤ 2
 
 tried-most : (a : FreeReply) → tried_cost a ≤ 8
@@ -81,7 +82,7 @@ below-light (f ∷ fs) = let ih = below-light fs in omega (arith, ih, (fits f).w
 
 deposit-most : (rs : List Row) → total deposit rs ≤ 3 * length rs
 deposit-most [] = omega arith
-deposit-most (r ∷ rs) = let ih = deposit-most rs in omega (arith, ih, mark_deposit-most r.mark)
+deposit-most (r ∷ rs) = let ih = deposit-most rs in omega (arith, ih, mark_deposit-most r.kind r.mark)
 
 weight-most : (ns : Notes) (rs : List Row) → total (weight ns) rs ≤ 3 * length rs
 weight-most ns [] = omega arith
@@ -96,25 +97,25 @@ look-most R AtNone fs rows h = omega arith
 look-most R (AtKids x) fs rows h = let n = count-length rows (Of x) in omega arith
 look-most R AtBelow fs rows h = let m = kids-most R rows fs h in omega arith
 
-top-most : (R : ℕ) (f : Frame) (fs : List Frame) (rows : List Row) → length rows ≤ R → top_cost R f fs rows ≤ 24 * R + 151
+top-most : (R : ℕ) (f : Frame) (fs : List Frame) (rows : List Row) → length rows ≤ R → top_cost R f fs rows ≤ 24 * R + 159
 top-most R f fs rows h =
     let c : Cost = (profile f).cost in
     let l : look_cost c.looks fs rows ≤ look_rounds c.looks * R + 4 = look-most R c.looks fs rows h in
     let m : R * (c.rounds + look_rounds c.looks) ≤ R * 24 = mul-le-mul_left R (fits f).rounds in
-    let t : c.steps ≤ 147 = (fits f).steps in
+    let t : c.steps ≤ 155 = (fits f).steps in
     omega arith
 
-numbers : (r k w z d e : ℕ) → w ≤ 3 * r → z ≤ 3 * r + 2 → d ≤ 3 * z → e ≤ 24 * (r + 2 * k + 2) + 151
-    → (4 * (r + 2 * k + 2) + 24) * w + (24 * (r + 2 * k + 2) + 148) * k + d + e < 64 * (k + 1) * ((r + 2 * k + 2) * (r + 2 * k + 2))
-numbers r k w z d e hw hz hd he =
+numbers : (r k w z d t e : ℕ) → t ≤ 8 → w ≤ 3 * r → z ≤ 3 * r + 2 → d ≤ 3 * z → e ≤ 24 * (r + 2 * k + 2) + 159
+    → (4 * (r + 2 * k + 2) + 24) * w + (24 * (r + 2 * k + 2) + 156) * k + d + t + e < 64 * (k + 1) * ((r + 2 * k + 2) * (r + 2 * k + 2))
+numbers r k w z d t e ht hw hz hd he =
     let a : (4 * (r + 2 * k + 2) + 24) * w ≤ (4 * (r + 2 * k + 2) + 24) * (3 * r) = mul-le-mul_left (4 * (r + 2 * k + 2) + 24) hw in
     omega arith
 
 -- the measure is below the stated number of turns at every moment
 pub cost-turns : (v : View) (k : ℕ) → IsPaidFor v.innermost v.below v.pool → cost (length v.pool.rows + 2 * k + 2) v.innermost v.below v.pool k < turns (length v.pool.rows) k
 cost-turns v k l =
-    numbers (length v.pool.rows) k (total (weight v.pool.requests) v.pool.rows) (sizes v.below) (below_cost v.below) (top_cost (length v.pool.rows + 2 * k + 2) v.innermost v.below v.pool.rows)
-    (weight-most v.pool.requests v.pool.rows) (let m = deposit-most v.pool.rows in omega (arith, l, m))
+    numbers (length v.pool.rows) k (total (weight v.pool.requests) v.pool.rows) (sizes v.below) (below_cost v.below) (turning_cost v.pool.turning) (top_cost (length v.pool.rows + 2 * k + 2) v.innermost v.below v.pool.rows)
+    (turning-most v.pool.turning) (weight-most v.pool.requests v.pool.rows) (let m = deposit-most v.pool.rows in omega (arith, l, m))
     (below-light v.below) (top-most (length v.pool.rows + 2 * k + 2) v.innermost v.below v.pool.rows (omega arith))
 
 pub pending-most : (f : Frame) → pending f ≤ 2

@@ -16,7 +16,7 @@ use Rattle.tree_specs.specs.declared.event.Event.{Event}
 use Rattle.tree_specs.specs.declared.frame.Frame.{Frame}
 use Rattle.tree_specs.specs.declared.frame.Frame.TheVariants as frame
 use Rattle.tree_specs.specs.declared.frame.CallFrame.TheVariants.{Awaiting}
-use Rattle.tree_specs.specs.declared.frame.TurnFrame.TheVariants.{Clearing}
+use Rattle.tree_specs.specs.declared.frame.TurnFrame.TheVariants.{Parting, Clearing}
 use Rattle.tree_specs.specs.declared.frame.FreeFrame.TheVariants.{Unlinking, Releasing, Giving, Beginning, Hooked, Judged, Preparing, Prepared, Dooming, Leaving, Looping, FreeingChild, AfterChild, Ending, Draining}
 use Rattle.tree_specs.specs.declared.frame.Purpose.{Purpose}
 use Rattle.tree_specs.specs.declared.frame.Purpose.TheVariants.{Removal, Emptying}
@@ -27,7 +27,6 @@ use Rattle.tree_specs.specs.declared.kind.Kind.TheVariants as kind
 use Rattle.tree_specs.specs.declared.free_step.FreeReply.{FreeReply}
 use Rattle.tree_specs.specs.declared.free_step.FreeReply.TheVariants.{Ok, Running, Refused, Held}
 use Rattle.std.proofs.Math.Nat.{mul-le-mul_left}
-use Rattle.tree_specs.specs.declared.frame.RequestFrame.TheVariants as request
 use Rattle.tree_specs.specs.Events.Requests.{without_note}
 use Rattle.tree_specs.specs.Calls.Refusals.{is_request, is_queue, is_entry}
 use Rattle.tree_specs.specs.Words.Objects.{same_owner}
@@ -42,7 +41,7 @@ use Rattle.tree_specs.proofs.Tree.Heirs.{heir-other}
 use Rattle.tree_specs.specs.Tree.Inside.{total}
 use Rattle.tree_specs.specs.Invariants.Measure.{count, mark_weight, weight, row_worth, waiting_cost, top_cost, cost, below_wants, pending}
 use Rattle.tree_specs.proofs.Tree.Rows.{total-without, total-placed, total-changed, total-length, count-length}
-use Rattle.tree_specs.proofs.Invariants.Waiters.{Waiter, ForFree, ForChild, ForClear, ForRelease, waiter, ForEntry}
+use Rattle.tree_specs.proofs.Invariants.Waiters.{ForParting, Waiter, ForFree, ForChild, ForClear, ForRelease, waiter, ForEntry}
 use Rattle.tree_specs.proofs.Invariants.Changes.{dying-row, running-row, claim-here, owned-row, heir-placed}
 use Rattle.tree_specs.proofs.Turns.Lowering.{Room, Lowers, done-lower, ending-lower, length-changed, length-without, total-kept, marked-weight, removed-weight, live-weight}
 use Rattle.tree_specs.proofs.Invariants.KeptFrees.{elsewhere}
@@ -103,6 +102,7 @@ looping-lower R x purpose fs p k s most = each (first_kid p.rows (Of x)) refl
     called : (g : Frame) (gs : List Frame) → Stands Emptying (footing (g ∷ gs)) → top_cost R (resume g (Freed Ok)) gs p.rows < waiting_cost g + (4 * count p.rows (Of x) + 7)
     called (frame.Call (Awaiting q y)) gs c = omega arith
     called (frame.Turn (Clearing y)) gs c = omega arith
+    called (frame.Turn (Parting y v)) gs c = omega arith
     called (frame.Request (request.Releasing y)) gs c = omega arith
     called _ gs c = absurd c
 
@@ -189,6 +189,7 @@ at_once-lower R a x f (g ∷ gs) p k h t w other most room = below g (waiter g g
         → Lowers R (cost R (frame.Free f) (g ∷ gs) p k) (Do.Done (Freed a) p) (g ∷ gs) k
     below _ (ForFree q y) t other most = (omega arith, omega (arith, most))
     below _ (ForClear y) t other most = (omega arith, omega (arith, most))
+    below _ (ForParting y v) t other most = (omega arith, omega (arith, most))
     below _ (ForRelease y) t other most = (omega arith, omega (arith, most))
     below _ (ForEntry q y) t other most = absurd other
     below _ (ForChild y c noted purpose) t other most = elim h [

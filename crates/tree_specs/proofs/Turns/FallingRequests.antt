@@ -15,12 +15,12 @@ use Rattle.tree_specs.specs.declared.frame.FreeFrame.TheVariants.{Preparing, Dra
 use Rattle.tree_specs.specs.declared.frame.RequestFrame.{RequestFrame}
 use Rattle.tree_specs.specs.declared.frame.RequestFrame.TheVariants as request
 use Rattle.tree_specs.specs.declared.frame.Answer.TheVariants.{Heard}
-use Rattle.tree_specs.specs.Tree.Pool.{Pool, run_queue}
+use Rattle.tree_specs.specs.Tree.Pool.{Pool, run_queue, is_usable}
 use Rattle.tree_specs.specs.Tree.Inside.{total}
 use Rattle.tree_specs.specs.Events.Requests.{note_of, cleanup_in, cancel_in, renoted, cleaned, not_deferring, in_state, is_unreceived}
 use Rattle.tree_specs.specs.Calls.Plans.{Plan, planned}
 use Rattle.tree_specs.specs.Calls.Plans.Plan.{Frees, Unlinks}
-use Rattle.tree_specs.specs.Machine.Table.{resume, cancelling_step, cleaning_step, release_object, cleaned_step, callback_step, notifying_step, request_step, vacating_step, triggering_step}
+use Rattle.tree_specs.specs.Machine.Table.{resume, cancelling_step, cleaning_step, release_object, cleaned_step, callback_step, notifying_step, request_step, vacating_step, triggering_step, deferred_step}
 use Rattle.tree_specs.specs.Invariants.Sound.{footing, Sound, IsPrepared}
 use Rattle.tree_specs.specs.Invariants.Noted.{Noted}
 use Rattle.tree_specs.specs.Invariants.Measure.{weight, row_worth, waiting_cost, top_cost, cost}
@@ -50,13 +50,17 @@ cleaned-lower R x errand fs p k room (Some n) = (omega arith, omega arith)
 notifying-lower : (R : ℕ) (x : Obj) (errand : Errand) (fs : List Frame) (p : Pool) (k : ℕ) → Room R (frame.Request (request.Notifying x errand)) p k → (o : Option Note)
     → Lowers R (cost R (frame.Request (request.Notifying x errand)) fs p k) (notifying_step x errand o p) fs k
 notifying-lower R x errand fs p k room None = (omega arith, omega arith)
-notifying-lower R x errand fs p k room (Some n) = by_test n.deferred
-    (λ t. let u = renoted-cost R not_deferring p x (λ m q h. h) in rw t (omega arith, omega (arith, u)))
-    (λ t. rw t (back n.callback))
+notifying-lower R x errand fs p k room (Some n) = deferred n.deferred
   where
     back : (o : Option Handler) → Lowers R (cost R (frame.Request (request.Notifying x errand)) fs p k) (callback_step x errand o p) fs k
     back None = (omega arith, omega arith)
     back (Some handler) = (omega arith, omega arith)
+
+    deferred : (o : Option Obj) → Lowers R (cost R (frame.Request (request.Notifying x errand)) fs p k) (deferred_step x errand o n.callback p) fs k
+    deferred None = back n.callback
+    deferred (Some c) =
+        let u = renoted-cost R not_deferring p x (λ m q h. h) in
+        by_test (is_usable p.rows c) (λ t. rw t (omega arith, omega (arith, u))) (λ t. rw t (omega arith, omega (arith, u)))
 
 pub request-lower : (R : ℕ) (f : RequestFrame) (fs : List Frame) (p : Pool) (k : ℕ) → Sound (frame.Request f) fs p → Noted (frame.Request f) p → Room R (frame.Request f) p k → Lowers R (cost R (frame.Request f) fs p k) (request_step f p) fs k
 request-lower R (request.Finishing x state) fs p k s noted room = let u = renoted-cost R (in_state state) p x (λ n e h. going-unreceived p x n noted.works.1 e) in (omega arith, omega (arith, u))

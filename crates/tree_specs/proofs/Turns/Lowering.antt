@@ -1,7 +1,7 @@
 -- What lowers the measure: works that end, and what rows weigh.
 use Rattle.std.proofs.Common.{◌≡◌, ℕ, suc, zero, ◌+◌, ◌*◌, ◌≤◌, ◌<◌, List, [], ◌∷◌, length, Some, refl, ap, arith}
-use Rattle.step_machine.specs.Machine.{Move}
-use Rattle.step_machine.specs.Machine.{Move as Do}
+use Rattle.std.specs.Prelude.{Option, Some, None}
+use Rattle.step_machine.specs.Machine.{Move, Move as Do}
 use Rattle.step_machine.proofs.Ends.{Leads}
 use Rattle.tree_specs.specs.declared.object.Obj.{Obj}
 use Rattle.tree_specs.specs.declared.object.Owner.TheVariants.{Of}
@@ -32,9 +32,9 @@ use Rattle.tree_specs.specs.Invariants.Sound.{IsWaiting, AllWait, IsLive, IsOver
 use Rattle.tree_specs.proofs.Tree.Numbered.{by_test}
 use Rattle.tree_specs.proofs.Calls.Checks.{Heard, HeardCall, HeardReturn, heard-leads}
 use Rattle.tree_specs.specs.Tree.Inside.{total}
-use Rattle.tree_specs.specs.Invariants.Measure.{mark_weight, note_weight, weight, waiting_cost, top_cost, cost, pending}
+use Rattle.tree_specs.specs.Invariants.Measure.{turning_cost, mark_weight, note_weight, weight, waiting_cost, top_cost, cost, pending}
 use Rattle.tree_specs.proofs.Tree.Rows.{total-without, total-changed, total-length, count-length}
-use Rattle.tree_specs.proofs.Invariants.Waiters.{Waiter, ForFree, ForRun, ForChild, ForTurn, ForHandler, ForClear, ForRequest, ForServed, ForReceived, ForRoutine, ForRelease, waiter, ForDrained, ForEntry}
+use Rattle.tree_specs.proofs.Invariants.Waiters.{ForParting, Waiter, ForFree, ForRun, ForChild, ForTurn, ForHandler, ForClear, ForRequest, ForServed, ForReceived, ForRoutine, ForRelease, waiter, ForDrained, ForEntry}
 
 -- R bounds the rows that there can be
 abbrev pub Room : ℕ → Frame → Pool → ℕ → Type 0
@@ -63,6 +63,11 @@ after-cost R whats.Cleanup a x h errand gs rows = omega arith
 after-cost R whats.Cancel a x h errand gs rows = omega arith
 after-cost R _ a x h errand gs rows = omega arith
 
+-- the freeing of a context costs so much at most
+pub turning-most : (o : Option Obj) → turning_cost o ≤ 8
+turning-most None = omega arith
+turning-most (Some c) = omega arith
+
 -- what a work that is over pays for
 over-pays : (R : ℕ) (a : FreeReply) → IsOver a → (rows : List Row) → length rows ≤ R → (g : Frame) (gs : List Frame) → Waiter g → top_cost R (resume g (Freed a)) gs rows < waiting_cost g + (4 * R + 12)
 over-pays R a o rows n _ gs (ForFree q x) = omega arith
@@ -71,6 +76,7 @@ over-pays R a o rows n _ gs (ForTurn q) = omega arith
 over-pays R a o rows n _ gs (ForHandler what x h occasion) = omega arith
 over-pays R a o rows n _ gs (ForClear x) = omega arith
 over-pays R a o rows n _ gs (ForRequest q) = omega arith
+over-pays R a o rows n _ gs (ForParting c v) = omega arith
 over-pays R a o rows n _ gs (ForServed x) = omega arith
 over-pays R a o rows n _ gs (ForReceived x) = omega arith
 over-pays R a o rows n _ gs (ForRoutine what x h errand) = let l = after-cost R what (Freed a) x h errand gs rows in omega (arith, l)

@@ -2,8 +2,7 @@
 use Rattle.tree_specs.specs.declared.frame.RequestFrame.{RequestFrame}
 use Rattle.tree_specs.specs.declared.frame.RequestFrame.TheVariants as request
 use Rattle.std.proofs.Common.{◌≡◌, ℕ, ◌+◌, ◌≤◌, List, [], ◌∷◌, refl, arith}
-use Rattle.step_machine.specs.Machine.{Move}
-use Rattle.step_machine.specs.Machine.{Move as Do}
+use Rattle.step_machine.specs.Machine.{Move, Move as Do}
 use Rattle.step_machine.proofs.Ends.{Leads}
 use Rattle.tree_specs.specs.declared.call.Call.{Call}
 use Rattle.tree_specs.specs.declared.question.Ask.{Ask}
@@ -13,7 +12,7 @@ use Rattle.tree_specs.specs.declared.frame.Frame.{Frame}
 use Rattle.tree_specs.specs.declared.frame.Frame.TheVariants as frame
 use Rattle.tree_specs.specs.declared.frame.CallFrame.TheVariants.{Doing, Awaiting, Turning, Requesting, Telling}
 use Rattle.tree_specs.specs.declared.frame.TurnFrame.{TurnFrame}
-use Rattle.tree_specs.specs.declared.frame.TurnFrame.TheVariants.{Taking, Handling, Clearing, Serving}
+use Rattle.tree_specs.specs.declared.frame.TurnFrame.TheVariants.{Parting, Taking, Handling, Clearing, Serving}
 use Rattle.tree_specs.specs.declared.frame.FreeFrame.{FreeFrame}
 use Rattle.tree_specs.specs.declared.frame.FreeFrame.TheVariants.{Hooked, Preparing, FreeingChild, Draining}
 use Rattle.tree_specs.specs.declared.frame.Answer.{Answer}
@@ -24,7 +23,7 @@ use Rattle.tree_specs.specs.Invariants.Sound.{AllWait}
 use Rattle.tree_specs.specs.Machine.Profiles.{profile}
 use Rattle.tree_specs.specs.Rules.Answers.{later}
 use Rattle.tree_specs.specs.Invariants.Consistent.{IsQuiet, IsOfRoutine, IsCaller, IsRun, IsFree, IsTurn, IsWork, Server, ByRun, ByTurn, ByRequest, ByFree, server, IsBy, MayStandOn, IsStacked, size, innermost_size, IsPaidFor}
-use Rattle.tree_specs.proofs.Invariants.Waiters.{Waiter, ForFree, ForRun, ForChild, ForTurn, ForHandler, ForClear, ForRequest, ForServed, ForReceived, ForDrained, ForRoutine, ForRelease, ForEntry, waiter}
+use Rattle.tree_specs.proofs.Invariants.Waiters.{ForParting, Waiter, ForFree, ForRun, ForChild, ForTurn, ForHandler, ForClear, ForRequest, ForServed, ForReceived, ForDrained, ForRoutine, ForRelease, ForEntry, waiter}
 
 -- what a move leads to stands where it may, and is light
 abbrev pub Placed : Move Frame Answer Pool Item → List Frame → ℕ → Type 0
@@ -78,6 +77,7 @@ resumed-seated _ gs a (ForDrained x) s = reseat-free (Draining x) _ gs s
 resumed-seated _ gs a (ForEntry q e) s = reseat-work (request.Dropping q e) _ gs s
 resumed-seated _ gs a (ForHandler w x h occasion) s = reseat-turn (Handling w x h occasion) _ gs s
 resumed-seated _ gs a (ForClear x) s = reseat-turn (Clearing x) _ gs s
+resumed-seated _ gs a (ForParting c v) s = reseat-turn (Parting c v) _ gs s
 resumed-seated _ gs a (ForRun x h) s = reseat-free (Hooked x h) _ gs s
 resumed-seated _ gs a (ForChild x c noted purpose) s = reseat-free (FreeingChild x c noted purpose) _ gs s
 
@@ -113,6 +113,7 @@ size-resume f _ gs a (ForDrained x) s = let n = work-size f s in omega (arith, n
 size-resume f _ gs a (ForEntry q e) s = omega arith
 size-resume f _ gs a (ForHandler w x h occasion) s = let n = run-size f s in omega (arith, n)
 size-resume f _ gs a (ForClear x) s = omega arith
+size-resume f _ gs a (ForParting c v) s = omega arith
 
 -- a work that ends, over rows whose deposit is as great
 pub over : (a : Answer) (f : Frame) (fs : List Frame) (p : Pool) (k : ℕ) → AllWait fs → IsStacked f fs → IsPaidFor f fs p → Placed (Do.Done a p) fs k

@@ -4,7 +4,7 @@ use Rattle.tree_specs.specs.declared.object.Obj.{Obj}
 use Rattle.tree_specs.specs.declared.object.Owner.{Owner}
 use Rattle.tree_specs.specs.declared.object.Owner.TheVariants.{Root}
 use Rattle.tree_specs.specs.declared.kind.Kind.{Kind}
-use Rattle.tree_specs.specs.declared.kind.Kind.TheVariants.{Plain, Reference, Timer, Immediate, Descriptor}
+use Rattle.tree_specs.specs.declared.kind.Kind.TheVariants.{Plain, Reference, Timer, Immediate, Descriptor, Context}
 use Rattle.tree_specs.specs.declared.row.Row.{Row}
 use Rattle.tree_specs.specs.declared.handler.Handler.{Handler}
 use Rattle.tree_specs.specs.declared.frame.Errand.{Errand}
@@ -23,14 +23,15 @@ use Rattle.tree_specs.specs.declared.reply.Reply.{Reply}
 use Rattle.tree_specs.specs.declared.reply.Reply.TheVariants.{Ok, Number, Pair, Rows, No}
 use Rattle.tree_specs.specs.Words.Objects.{owner_number}
 use Rattle.tree_specs.specs.Tree.Targets.{newest_ref}
-use Rattle.tree_specs.specs.Tree.Pool.{Pool, changed, is_below, owner_of, newest_ref_of, add, place, named_row, hooked_row, sized_row, limited_row, set_handler, schedule, unschedule, arm, watch, rewatch, close_descriptor, take_number, add_request, renote, run_queue, add_queue, add_entry, look_at}
-use Rattle.tree_specs.specs.Events.Rotation.{flags_of, flagged, closing}
+use Rattle.tree_specs.specs.Tree.Pool.{Pool, changed, is_below, owner_of, newest_ref_of, add, place, named_row, hooked_row, sized_row, limited_row, set_handler, schedule, unschedule, arm, watch, rewatch, close_descriptor, take_number, add_request, renote, run_queue, add_queue, add_entry, look_at, enter}
+use Rattle.tree_specs.specs.Events.Rotation.{flags_of, flagged, closing, ring_in}
 use Rattle.tree_specs.specs.Events.Requests.{state_number, is_in_progress, note_of, called_back, deferring, cleaned_by, cancelled_by, failed_with}
 use Rattle.tree_specs.specs.Events.Queues.{runs, length_of}
+use Rattle.tree_specs.specs.Events.Pending.{soon_in, times_in}
 use Rattle.tree_specs.specs.Tree.Inside.{size_inside, count_inside}
 use Rattle.tree_specs.specs.Tree.Sums.{sum_inside}
 use Rattle.tree_specs.specs.Tree.Reports.{report}
-use Rattle.tree_specs.specs.Calls.Refusals.{Check, refusals}
+use Rattle.tree_specs.specs.Calls.Refusals.{Check, refusals, refusals_at}
 
 -- what is done to the objects
 pub data Change : Type 0 where
@@ -43,13 +44,13 @@ pub data Change : Type 0 where
   Place : Owner → Obj → Change
   -- an event gets a handler
   Handle : Obj → Handler → Change
-  -- an object is to come soon, or doesn't come any more
-  Schedule : Obj → Change
+  -- an object is to come soon in a context, or doesn't come any more
+  Schedule : Obj → Obj → Change
   Unschedule : Obj → Change
   -- an object is to come at a time; the number tells equal times apart
-  Arm : Obj → ℕ → ℕ → Change
+  Arm : Obj → ℕ → ℕ → Obj → Change
   -- an event watches a descriptor, for these flags
-  Watches : Obj → ℕ → ℕ → Change
+  Watches : Obj → ℕ → ℕ → Obj → Change
   -- how it does is changed
   Rewatch : Obj → (Watch → Watch) → Change
   -- a descriptor is closed
@@ -68,6 +69,8 @@ pub data Change : Type 0 where
   AddEntry : Obj → Obj → Handler → Change
   -- a queue comes soon, where it runs and its first entry waits for its trigger
   LooksAt : Obj → Change
+  -- a turn of a context begins
+  Enter : Obj → Change
   -- one change after another
   Then : Change → Change → Change
 
@@ -77,10 +80,10 @@ changed_by (Edit x g) p = record p { rows = changed g p.rows x }
 changed_by (Add kind o size name) p = add p kind o size name
 changed_by (Place o x) p = place p o x
 changed_by (Handle x handler) p = set_handler p x handler
-changed_by (Schedule x) p = schedule p x
+changed_by (Schedule x c) p = schedule p x c
 changed_by (Unschedule x) p = unschedule p x
-changed_by (Arm x time number) p = arm p x time number
-changed_by (Watches x fd flags) p = watch p x fd flags
+changed_by (Arm x time number c) p = arm p x time number c
+changed_by (Watches x fd flags c) p = watch p x fd flags c
 changed_by (Rewatch x change) p = rewatch p x change
 changed_by (Close fd) p = close_descriptor p fd
 changed_by TakeNumber p = take_number p
@@ -90,6 +93,7 @@ changed_by (Runs q running) p = run_queue p q running
 changed_by (AddQueue o name) p = add_queue p o name
 changed_by (AddEntry q x trigger) p = add_entry p q x trigger
 changed_by (LooksAt q) p = look_at p q
+changed_by (Enter c) p = enter p c
 changed_by (Then first second) p = changed_by second (changed_by first p)
 
 pub data Plan : Type 0 where
@@ -102,8 +106,8 @@ pub data Plan : Type 0 where
   Empties : Obj → Plan
   -- the outside is asked, and its answer is the reply
   Asks : Ask → Plan
-  -- a turn of the event loop
-  Turns : Plan
+  -- a turn of a context
+  Turns : Obj → Plan
   -- a change, and then an errand of a request, whose end tells the reply
   Works : Change → Errand → Obj → Plan
 
@@ -146,19 +150,19 @@ abbrev pub refer : Pool → Owner → Obj → Pool
 refer p o x = add p (Reference x) o 0 (codes "reference")
 
 -- with a routine an object comes soon, and with none it doesn't come
-abbrev pub comes_soon : Obj → ℕ → ℕ → Change
-comes_soon x routine user = if nat_eq routine 0 then Unschedule x else Then (Handle x (record { routine = routine; user = user })) (Schedule x)
+abbrev pub comes_soon : Obj → ℕ → ℕ → Obj → Change
+comes_soon x routine user c = if nat_eq routine 0 then Unschedule x else Then (Handle x (record { routine = routine; user = user; context = c })) (Schedule x c)
 
 -- an event gets a handler, and is to come at a time under its own number
 abbrev pub comes_at : Obj → ℕ → Handler → Change
-comes_at x time handler = Then (Handle x handler) (Arm x time x.0)
+comes_at x time handler = Then (Handle x handler) (Arm x time x.0 handler.context)
 
 abbrev pub adds_timer : Pool → Owner → ℕ → Handler → Change
 adds_timer p o time handler = Then (Add Timer o 0 (codes "timer")) (comes_at (record { 0 = p.next }) time handler)
 
 -- an event gets a handler, and watches a descriptor
 abbrev pub watches : Obj → ℕ → ℕ → Handler → Change
-watches x fd flags handler = Then (Handle x handler) (Watches x fd flags)
+watches x fd flags handler = Then (Handle x handler) (Watches x fd flags handler.context)
 
 abbrev pub adds_descriptor : Pool → Owner → ℕ → ℕ → Handler → Change
 adds_descriptor p o fd flags handler = Then (Add Descriptor o 0 (codes "fd")) (watches (record { 0 = p.next }) fd flags handler)
@@ -210,11 +214,12 @@ plan p (call.Total o) = replies (Number (size_inside p.rows o))
 plan p (call.Count o) = replies (Number (count_inside p.rows o))
 plan p (call.Sum o) = replies (Number (sum_inside p.rows o))
 plan p (call.Report o) = replies (Rows (report p.rows o))
+plan p (call.Context o) = adds p Context o 0 (codes "tevent")
 plan p (call.Immediate o) = adds p Immediate o 0 (codes "immediate")
-plan p (call.Schedule x routine user) = Does (comes_soon x routine user) None Ok
+plan p (call.Schedule x routine user c) = Does (comes_soon x routine user c) None Ok
 plan p (call.Unschedule x) = Does (Unschedule x) None Ok
-plan p (call.Timer o time routine user) = Does (adds_timer p o time (record { routine = routine; user = user })) None (Number p.next)
-plan p (call.Fd o fd flags routine user) = Does (adds_descriptor p o fd flags (record { routine = routine; user = user })) None (Number p.next)
+plan p (call.Timer o time routine user c) = Does (adds_timer p o time (record { routine = routine; user = user; context = c })) None (Number p.next)
+plan p (call.Fd o fd flags routine user c) = Does (adds_descriptor p o fd flags (record { routine = routine; user = user; context = c })) None (Number p.next)
 plan p (call.Flags x flags) = Does (Rewatch x (flagged flags)) None Ok
 plan p (call.Getflags x) = replies (Number (unwrap_or (flags_of p.ring x) 0))
 plan p (call.Autoclose x) = Does (Rewatch x closing) None Ok
@@ -224,27 +229,27 @@ plan p (call.Read fd len) = Asks (ask.Read fd len)
 plan p (call.Write fd bytes) = Asks (ask.Write fd bytes)
 plan p (call.Req o size name) = Does (AddRequest o size name) None (Number p.next)
 plan p (call.Callback x routine user) = renotes x (called_back routine user)
-plan p (call.Defer x) = renotes x deferring
+plan p (call.Defer x c) = renotes x (deferring c)
 plan p (call.Cleanup x routine) = renotes x (cleaned_by routine)
 plan p (call.Setcancel x routine) = renotes x (cancelled_by routine)
 plan p (call.Cancel x) = Works Nothing Cancel x
-plan p (call.Post x) = Does (Schedule x) None Ok
+plan p (call.Post x c) = Does (Schedule x c) None Ok
 plan p (call.Done x) = Works Nothing (Finish state.Done) x
 plan p (call.Error x error) = fails x error
 plan p (call.Oom x) = Works Nothing (Finish state.NoMemory) x
 plan p (call.Iserror x) = replies (failure_reply (note_of p.requests x))
 plan p (call.Progress x) = replies (progress_reply (note_of p.requests x))
-plan p (call.Endtime x time) = Does (Then (Arm x time p.next) TakeNumber) None Ok
+plan p (call.Endtime x time c) = Does (Then (Arm x time p.next c) TakeNumber) None Ok
 plan p (call.Received x) = Works Nothing Receive x
 plan p (call.Queue o name) = Does (AddQueue o name) None (Number p.next)
-plan p (call.Enqueue q x routine user) = Does (AddEntry q x (record { routine = routine; user = user })) None (Number p.next)
+plan p (call.Enqueue q x routine user c) = Does (AddEntry q x (record { routine = routine; user = user; context = c })) None (Number p.next)
 plan p (call.Start q) = starts p q
 plan p (call.Stop q) = Does (Runs q false) None Ok
 plan p (call.Length q) = replies (Number (length_of p.queues q))
 plan p (call.Running q) = replies (Number (if runs p.queues q then 1 else 0))
-plan p call.Pending = replies (Number (length p.soon + length p.times + length p.ring))
+plan p (call.Pending c) = replies (Number (length (soon_in p.soon c) + length (times_in p.times c) + length (ring_in p.ring c)))
 plan p call.Now = Asks ask.Clock
-plan p call.Turn = Turns
+plan p (call.Turn c) = Turns c
 
 -- a call that is refused does nothing, and has the first refusal as its reply
 abbrev pub unless_refused : Check → Plan → Plan
@@ -253,6 +258,10 @@ unless_refused (why ∷ later) plan = replies (No why)
 
 abbrev pub planned : Pool → Call → Plan
 planned p c = unless_refused (refusals p c) (plan p c)
+
+-- so it is where it is given at this question
+abbrev pub planned_at : Ask → Pool → Call → Plan
+planned_at q p c = unless_refused (refusals_at q p c) (plan p c)
 
 -- what is told before the reply
 abbrev pub notice_of : Plan → Option Notice

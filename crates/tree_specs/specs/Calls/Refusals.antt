@@ -12,18 +12,21 @@ use Rattle.tree_specs.specs.declared.row.Row.{Row}
 use Rattle.tree_specs.specs.declared.row.Mark.{Mark}
 use Rattle.tree_specs.specs.declared.row.Mark.TheVariants as mark
 use Rattle.tree_specs.specs.declared.call.Call.{Call}
-use Rattle.tree_specs.specs.declared.call.Call.TheVariants.{New, Free, Freekids, Steal, Move, Reparent, Reference as Refer, Unlink, Hook, Unhook, Rename, Resize, Limit, Parent, Total, Count, Sum, Report, Immediate, Schedule, Unschedule, Timer, Fd, Flags, Getflags, Autoclose, Close, Accept, Read, Write, Req, Callback, Defer, Cleanup, Setcancel, Cancel, Post, Done, Error, Oom, Iserror, Progress, Endtime, Received, Queue, Enqueue, Start, Stop, Length, Running as IsRunning, Pending, Now, Turn}
+use Rattle.tree_specs.specs.declared.call.Call.TheVariants.{New, Free, Freekids, Steal, Move, Reparent, Reference as Refer, Unlink, Hook, Unhook, Rename, Resize, Limit, Parent, Total, Count, Sum, Report, Context, Immediate, Schedule, Unschedule, Timer, Fd, Flags, Getflags, Autoclose, Close, Accept, Read, Write, Req, Callback, Defer, Cleanup, Setcancel, Cancel, Post, Done, Error, Oom, Iserror, Progress, Endtime, Received, Queue, Enqueue, Start, Stop, Length, Running as IsRunning, Pending, Now, Turn}
+use Rattle.tree_specs.specs.declared.question.Ask.{Ask}
+use Rattle.tree_specs.specs.declared.question.Ask.TheVariants.{Routine}
 use Rattle.tree_specs.specs.declared.test.Test.{Test}
-use Rattle.tree_specs.specs.declared.test.Test.TheVariants.{IsSmall, IsObject, IsOwner, IsPlain, IsImmediate, IsDescriptor, IsRequest, IsQueue, IsMovable, IsReferable, IsOpen, IsUnwatched, HasRoom, HasNumber, IsInProgress, IsFinished, MayFail, Fits, MayGrow, IsNotDying, IsNotGoing, IsNotDoomed, IsNotRunning, IsNotInside, IsUnheld, IsUnreferenced, IsInterested, MayGive}
+use Rattle.tree_specs.specs.declared.test.Test.TheVariants.{IsSmall, IsObject, IsOwner, IsPlain, IsImmediate, IsDescriptor, IsRequest, IsQueue, IsContext, IsMovable, IsReferable, IsOpen, IsUnwatched, HasRoom, HasNumber, IsInProgress, IsFinished, MayFail, Fits, MayGrow, IsNotDying, IsNotGoing, IsNotDoomed, IsNotRunning, IsNotInside, IsUnheld, IsUnreferenced, IsInterested, MayGive}
 use Rattle.tree_specs.specs.declared.reply.Refusal.{Refusal}
-use Rattle.tree_specs.specs.declared.reply.Refusal.TheVariants.{NoSuch, WrongKind, Running, Held, NotParent, Loop, Dying, OverLimit, Full, Spent, InUse, BadState, TooBig}
-use Rattle.tree_specs.specs.Tree.Pool.{Pool, row_of, passes, is_below, owner_of, newest_ref_of, is_dying_mark, is_dying, is_inside}
+use Rattle.tree_specs.specs.declared.reply.Refusal.TheVariants.{NoSuch, WrongKind, Running, Held, NotParent, Loop, Dying, OverLimit, Full, Spent, InUse, BadState, TooBig, Nested}
+use Rattle.tree_specs.specs.Tree.Pool.{Pool, row_of, passes, is_context_row, is_usable_row, is_below, owner_of, newest_ref_of, is_dying_mark, is_dying, is_inside}
 use Rattle.tree_specs.specs.Tree.Targets.{is_reference}
 use Rattle.tree_specs.specs.Events.Rotation.{is_watched}
 use Rattle.tree_specs.specs.Events.Descriptors.{is_open_in}
 use Rattle.tree_specs.specs.Events.Requests.{state_number, is_in_progress, is_received, note_of}
 use Rattle.tree_specs.specs.Tree.Reports.{count_refs}
 use Rattle.tree_specs.specs.Tree.Sums.{overhead, sum_inside, limit_at, size_at}
+use Rattle.tree_specs.specs.Words.Objects.{same, first_context}
 
 -- the size of an object is below this, in bytes
 abbrev pub size_limit : ℕ
@@ -233,6 +236,10 @@ remaining p x = refuse_if (is_going p x) (Dying x)
 abbrev pub lasting : Pool → Obj → Check
 lasting p x = refuse_if (is_doomed p x) (Dying x)
 
+-- something is to come in a context: the first one, or one that stays
+abbrev pub context : Pool → Obj → Check
+context p c = if same c first_context then [] else object p c before of_kind is_context_row p c before refuse_if (not (is_usable_row (row_of p.rows c))) (Dying c)
+
 -- no object comes to be inside itself
 abbrev pub apart : Pool → Obj → Owner → Check
 apart p x o = refuse_if (is_inside p.rows o (Of x)) (Loop x o)
@@ -291,6 +298,7 @@ refusal_of p (IsImmediate x) = immediate p x
 refusal_of p (IsDescriptor x) = descriptor p x
 refusal_of p (IsRequest x) = request p x
 refusal_of p (IsQueue x) = queue p x
+refusal_of p (IsContext c) = context p c
 refusal_of p (IsMovable x) = movable p x
 refusal_of p (IsReferable x) = referable p x
 refusal_of p (IsOpen fd) = open_one p fd
@@ -331,11 +339,12 @@ tests (Total o) = IsOwner o ∷ []
 tests (Count o) = IsOwner o ∷ []
 tests (Sum o) = IsOwner o ∷ []
 tests (Report o) = IsOwner o ∷ []
+tests (Context o) = IsOwner o ∷ HasRoom 1 ∷ Fits o overhead ∷ []
 tests (Immediate o) = IsOwner o ∷ HasRoom 1 ∷ Fits o overhead ∷ []
-tests (Schedule x routine user) = IsObject x ∷ IsImmediate x ∷ IsNotDoomed x ∷ []
+tests (Schedule x routine user c) = IsObject x ∷ IsImmediate x ∷ IsNotDoomed x ∷ IsContext c ∷ []
 tests (Unschedule x) = IsObject x ∷ IsImmediate x ∷ IsNotDoomed x ∷ []
-tests (Timer o time routine user) = IsOwner o ∷ HasRoom 1 ∷ Fits o overhead ∷ []
-tests (Fd o fd flags routine user) = IsOwner o ∷ IsOpen fd ∷ IsUnwatched fd ∷ HasRoom 1 ∷ Fits o overhead ∷ []
+tests (Timer o time routine user c) = IsOwner o ∷ IsContext c ∷ HasRoom 1 ∷ Fits o overhead ∷ []
+tests (Fd o fd flags routine user c) = IsOwner o ∷ IsOpen fd ∷ IsUnwatched fd ∷ IsContext c ∷ HasRoom 1 ∷ Fits o overhead ∷ []
 tests (Flags x flags) = IsObject x ∷ IsDescriptor x ∷ IsNotDoomed x ∷ []
 tests (Getflags x) = IsObject x ∷ IsDescriptor x ∷ IsNotDoomed x ∷ []
 tests (Autoclose x) = IsObject x ∷ IsDescriptor x ∷ IsNotDoomed x ∷ []
@@ -345,27 +354,27 @@ tests (Read fd len) = IsOpen fd ∷ []
 tests (Write fd bytes) = IsOpen fd ∷ []
 tests (Req o size name) = IsSmall size ∷ IsOwner o ∷ HasRoom 2 ∷ Fits o (size + overhead + overhead) ∷ []
 tests (Callback x routine user) = IsObject x ∷ IsRequest x ∷ IsNotDying x ∷ []
-tests (Defer x) = IsObject x ∷ IsRequest x ∷ IsNotDying x ∷ []
+tests (Defer x c) = IsObject x ∷ IsRequest x ∷ IsNotDying x ∷ IsContext c ∷ []
 tests (Cleanup x routine) = IsObject x ∷ IsRequest x ∷ IsNotDying x ∷ []
 tests (Setcancel x routine) = IsObject x ∷ IsRequest x ∷ IsNotDying x ∷ []
 tests (Cancel x) = IsObject x ∷ IsRequest x ∷ []
-tests (Post x) = IsObject x ∷ IsRequest x ∷ IsFinished x ∷ []
+tests (Post x c) = IsObject x ∷ IsRequest x ∷ IsFinished x ∷ IsContext c ∷ []
 tests (Done x) = IsObject x ∷ IsRequest x ∷ IsInProgress x ∷ []
 tests (Error x error) = IsObject x ∷ IsRequest x ∷ MayFail x error ∷ []
 tests (Oom x) = IsObject x ∷ IsRequest x ∷ IsInProgress x ∷ []
 tests (Iserror x) = IsObject x ∷ IsRequest x ∷ []
 tests (Progress x) = IsObject x ∷ IsRequest x ∷ []
-tests (Endtime x time) = IsObject x ∷ IsRequest x ∷ IsInProgress x ∷ HasNumber ∷ []
+tests (Endtime x time c) = IsObject x ∷ IsRequest x ∷ IsInProgress x ∷ IsContext c ∷ HasNumber ∷ []
 tests (Received x) = IsObject x ∷ IsRequest x ∷ []
 tests (Queue o name) = IsOwner o ∷ HasRoom 1 ∷ Fits o overhead ∷ []
-tests (Enqueue q x routine user) = IsObject q ∷ IsQueue q ∷ IsNotGoing q ∷ IsObject x ∷ IsRequest x ∷ IsNotDying x ∷ HasRoom 1 ∷ Fits (Of x) overhead ∷ []
+tests (Enqueue q x routine user c) = IsObject q ∷ IsQueue q ∷ IsNotGoing q ∷ IsObject x ∷ IsRequest x ∷ IsNotDying x ∷ IsContext c ∷ HasRoom 1 ∷ Fits (Of x) overhead ∷ []
 tests (Start q) = IsObject q ∷ IsQueue q ∷ IsNotGoing q ∷ []
 tests (Stop q) = IsObject q ∷ IsQueue q ∷ IsNotGoing q ∷ []
 tests (Length q) = IsObject q ∷ IsQueue q ∷ []
 tests (IsRunning q) = IsObject q ∷ IsQueue q ∷ []
-tests Pending = []
+tests (Pending c) = IsContext c ∷ []
 tests Now = []
-tests Turn = []
+tests (Turn c) = IsContext c ∷ []
 
 -- the refusals of tests, one after another
 abbrev pub refused : Pool → List Test → Check
@@ -375,3 +384,14 @@ refused p (t ∷ u ∷ ts) = refusal_of p t before refused p (u ∷ ts)
 
 abbrev pub refusals : Pool → Call → Check
 refusals p c = refused p (tests c)
+
+-- ---- where a call is given
+
+-- a turn is for the host's own caller alone, since a routine that runs may be in one
+abbrev pub is_nested : Ask → Call → Bool
+is_nested (Routine m) (Turn c) = true
+is_nested q c = false
+
+-- the refusals of a call that is given at this question
+abbrev pub refusals_at : Ask → Pool → Call → Check
+refusals_at q p c = refuse_if (is_nested q c) Nested before refusals p c

@@ -4,7 +4,7 @@ use Rattle.std.specs.Prelude.{ℕ, List, [], ◌∷◌, ◌++◌, codes}
 use Rattle.tree_specs.specs.declared.object.Obj.{Obj}
 use Rattle.tree_specs.specs.declared.object.Owner.{Owner}
 use Rattle.tree_specs.specs.declared.call.Call.{Call}
-use Rattle.tree_specs.specs.declared.call.Call.TheVariants.{New, Free, Freekids, Steal, Move, Reparent, Reference, Unlink, Hook, Unhook, Rename, Resize, Limit, Parent, Total, Count, Sum, Report, Immediate, Schedule, Unschedule, Timer, Fd, Flags, Getflags, Autoclose, Close, Accept, Read, Write, Req, Callback, Defer, Cleanup, Setcancel, Cancel, Post, Done, Error, Oom, Iserror, Progress, Endtime, Received, Queue, Enqueue, Start, Stop, Length as QueueLength, Running, Pending, Now, Turn}
+use Rattle.tree_specs.specs.declared.call.Call.TheVariants.{New, Free, Freekids, Steal, Move, Reparent, Reference, Unlink, Hook, Unhook, Rename, Resize, Limit, Parent, Total, Count, Sum, Report, Context, Immediate, Schedule, Unschedule, Timer, Fd, Flags, Getflags, Autoclose, Close, Accept, Read, Write, Req, Callback, Defer, Cleanup, Setcancel, Cancel, Post, Done, Error, Oom, Iserror, Progress, Endtime, Received, Queue, Enqueue, Start, Stop, Length as QueueLength, Running, Pending, Now, Turn}
 use Rattle.tree_specs.specs.declared.schedule.Version.{Version}
 use Rattle.tree_specs.specs.declared.schedule.Version.TheVariants as versions
 
@@ -30,8 +30,8 @@ pub data Field : Type 0 where
   AName : List ℕ → Field
   -- in hexadecimal
   SomeBytes : List ℕ → Field
-  -- the first context, which is the only one: 0
-  TheContext : Field
+  -- a context; 0 is the first one
+  TheContext : Obj → Field
 
 abbrev pub a_number : ℕ → Field
 a_number n = ANumeral Number n
@@ -63,10 +63,10 @@ infixr 8 ◌with◌
 abbrev pub ◌with◌ : List ℕ → List Field → Spelling
 verb with fields = record { verb = verb; fields = fields }
 
--- where a call says its context, it says it last; in version 1 none does
-abbrev pub in_context : Version → List Field
-in_context versions.One = []
-in_context versions.Two = TheContext ∷ []
+-- where a call says its context, it says it last; in version 1 none does, and it is the first one
+abbrev pub in_context : Version → Obj → List Field
+in_context versions.One c = []
+in_context versions.Two c = TheContext c ∷ []
 
 abbrev pub spelling : Version → Call → Spelling
 spelling v (New owner size name) = codes "new" with (AnOwner owner ∷ a_number size ∷ AName name ∷ [])
@@ -87,11 +87,12 @@ spelling v (Total owner) = codes "total" with (AnOwner owner ∷ [])
 spelling v (Count owner) = codes "count" with (AnOwner owner ∷ [])
 spelling v (Sum owner) = codes "sum" with (AnOwner owner ∷ [])
 spelling v (Report owner) = codes "report" with (AnOwner owner ∷ [])
+spelling v (Context owner) = codes "context" with (AnOwner owner ∷ [])
 spelling v (Immediate owner) = codes "immediate" with (AnOwner owner ∷ [])
-spelling v (Schedule x routine user) = codes "schedule" with (AnObject x ∷ a_routine_or_none routine ∷ a_number user ∷ in_context v)
+spelling v (Schedule x routine user c) = codes "schedule" with (AnObject x ∷ a_routine_or_none routine ∷ a_number user ∷ in_context v c)
 spelling v (Unschedule x) = codes "unschedule" with (AnObject x ∷ [])
-spelling v (Timer owner time routine user) = codes "timer" with (AnOwner owner ∷ a_time time ∷ a_routine routine ∷ a_number user ∷ in_context v)
-spelling v (Fd owner fd flags routine user) = codes "fd" with (AnOwner owner ∷ a_descriptor fd ∷ some_flags flags ∷ a_routine routine ∷ a_number user ∷ in_context v)
+spelling v (Timer owner time routine user c) = codes "timer" with (AnOwner owner ∷ a_time time ∷ a_routine routine ∷ a_number user ∷ in_context v c)
+spelling v (Fd owner fd flags routine user c) = codes "fd" with (AnOwner owner ∷ a_descriptor fd ∷ some_flags flags ∷ a_routine routine ∷ a_number user ∷ in_context v c)
 spelling v (Flags x flags) = codes "flags" with (AnObject x ∷ some_flags flags ∷ [])
 spelling v (Getflags x) = codes "getflags" with (AnObject x ∷ [])
 spelling v (Autoclose x) = codes "autoclose" with (AnObject x ∷ [])
@@ -101,27 +102,27 @@ spelling v (Read fd len) = codes "read" with (a_descriptor fd ∷ a_length len �
 spelling v (Write fd bytes) = codes "write" with (a_descriptor fd ∷ SomeBytes bytes ∷ [])
 spelling v (Req owner size name) = codes "req" with (AnOwner owner ∷ a_number size ∷ AName name ∷ [])
 spelling v (Callback x routine user) = codes "callback" with (AnObject x ∷ a_routine_or_none routine ∷ a_number user ∷ [])
-spelling v (Defer x) = codes "defer" with (AnObject x ∷ in_context v)
+spelling v (Defer x c) = codes "defer" with (AnObject x ∷ in_context v c)
 spelling v (Cleanup x routine) = codes "cleanup" with (AnObject x ∷ a_routine_or_none routine ∷ [])
 spelling v (Setcancel x routine) = codes "setcancel" with (AnObject x ∷ a_routine_or_none routine ∷ [])
 spelling v (Cancel x) = codes "cancel" with (AnObject x ∷ [])
-spelling v (Post x) = codes "post" with (AnObject x ∷ in_context v)
+spelling v (Post x c) = codes "post" with (AnObject x ∷ in_context v c)
 spelling v (Done x) = codes "done" with (AnObject x ∷ [])
 spelling v (Error x error) = codes "error" with (AnObject x ∷ a_number error ∷ [])
 spelling v (Oom x) = codes "oom" with (AnObject x ∷ [])
 spelling v (Iserror x) = codes "iserror" with (AnObject x ∷ [])
 spelling v (Progress x) = codes "progress" with (AnObject x ∷ [])
-spelling v (Endtime x time) = codes "endtime" with (AnObject x ∷ a_time time ∷ in_context v)
+spelling v (Endtime x time c) = codes "endtime" with (AnObject x ∷ a_time time ∷ in_context v c)
 spelling v (Received x) = codes "received" with (AnObject x ∷ [])
 spelling v (Queue owner name) = codes "queue" with (AnOwner owner ∷ AName name ∷ [])
-spelling v (Enqueue queue x routine user) = codes "enqueue" with (AnObject queue ∷ AnObject x ∷ a_routine routine ∷ a_number user ∷ in_context v)
+spelling v (Enqueue queue x routine user c) = codes "enqueue" with (AnObject queue ∷ AnObject x ∷ a_routine routine ∷ a_number user ∷ in_context v c)
 spelling v (Start queue) = codes "start" with (AnObject queue ∷ [])
 spelling v (Stop queue) = codes "stop" with (AnObject queue ∷ [])
 spelling v (QueueLength queue) = codes "length" with (AnObject queue ∷ [])
 spelling v (Running queue) = codes "running" with (AnObject queue ∷ [])
-spelling v Pending = codes "pending" with in_context v
+spelling v (Pending c) = codes "pending" with in_context v c
 spelling v Now = codes "now" with []
-spelling v Turn = codes "turn" with in_context v
+spelling v (Turn c) = codes "turn" with in_context v c
 
 -- ---- reading
 
@@ -134,7 +135,7 @@ pub data Reading : Type 0 where
   -- a name comes last, and so do bytes, and so does a context where one is said
   EndsInName : (List ℕ → Call) → Reading
   EndsInBytes : (List ℕ → Call) → Reading
-  EndsInContext : Call → Reading
+  EndsInContext : (Obj → Call) → Reading
 
 abbrev pub takes_number : (ℕ → Reading) → Reading
 takes_number next = TakesNumeral Number next
@@ -142,7 +143,7 @@ takes_number next = TakesNumeral Number next
 abbrev pub of_object : (Obj → Call) → Reading
 of_object call = TakesObject (λ x. NoMore (call x))
 
-abbrev pub object_in_context : (Obj → Call) → Reading
+abbrev pub object_in_context : (Obj → Obj → Call) → Reading
 object_in_context call = TakesObject (λ x. EndsInContext (call x))
 
 abbrev pub of_owner : (Owner → Call) → Reading
@@ -251,6 +252,11 @@ loop_forms =
     ∷ (codes "turn" reads EndsInContext Turn)
     ∷ []
 
--- all calls
-abbrev pub forms : List Form
-forms = tree_forms ++ event_forms ++ descriptor_forms ++ request_forms ++ queue_forms ++ loop_forms
+-- calls on contexts, which version 1 doesn't have
+abbrev pub context_forms : Version → List Form
+context_forms versions.One = []
+context_forms versions.Two = (codes "context" reads of_owner Context) ∷ []
+
+-- all calls of a version
+abbrev pub forms : Version → List Form
+forms v = tree_forms ++ event_forms ++ descriptor_forms ++ request_forms ++ queue_forms ++ loop_forms ++ context_forms v

@@ -13,10 +13,12 @@ use Rattle.tree_specs.specs.declared.moment.What.{What}
 use Rattle.tree_specs.specs.declared.moment.What.TheVariants.{Timer, Immediate, Descriptor}
 use Rattle.tree_specs.specs.declared.occasion.Occasion.{Occasion}
 use Rattle.tree_specs.specs.declared.wants.Want.{Want}
-use Rattle.tree_specs.specs.Tree.Pool.{Pool, row_of, set_mark, turn_back}
+use Rattle.tree_specs.specs.Tree.Pool.{Pool, row_of, passes, set_mark, turn_back, times_here}
+use Rattle.tree_specs.specs.Tree.Targets.{is_context}
 use Rattle.tree_specs.specs.Events.Handlers.{handler_of}
 use Rattle.tree_specs.specs.Events.Pending.{first}
 use Rattle.tree_specs.specs.Calls.Refusals.{is_doomed}
+use Rattle.tree_specs.specs.Words.Objects.{same, first_context}
 
 -- how long is waited for descriptors where no event has a time
 abbrev pub wait_limit : ℕ
@@ -38,9 +40,24 @@ abbrev pub may_start : What → Option Row → Bool
 may_start what None = false
 may_start what (Some r) = comes_as what r.kind && is_quiet_mark r.mark
 
--- the handler that is to run; none where it is no such event, or has none
+abbrev pub is_busy_mark : Mark → Bool
+is_busy_mark mark.Busy = true
+is_busy_mark m = false
+
+-- the first context, or one whose turn is under way
+abbrev pub is_at_turn_row : Option Row → Bool
+is_at_turn_row o = passes (λ r. is_context r.kind && is_busy_mark r.mark) o
+
+abbrev pub is_at_turn : Pool → Obj → Bool
+is_at_turn p c = same c first_context || is_at_turn_row (row_of p.rows c)
+
+abbrev pub at_turn : Pool → Option Handler → Option Handler
+at_turn p None = None
+at_turn p (Some h) = if is_at_turn p h.context then Some h else None
+
+-- the handler that is to run; none where it is no such event, or has none, or it isn't the turn of its context
 abbrev pub handler_for : Pool → What → Obj → Option Handler
-handler_for p what x = if may_start what (row_of p.rows x) then handler_of p.handlers x else None
+handler_for p what x = if may_start what (row_of p.rows x) then at_turn p (handler_of p.handlers x) else None
 
 -- at this time; with these flags; without either
 abbrev pub at_time : ℕ → Occasion
@@ -75,5 +92,5 @@ goes_after p what x = is_once what || is_doomed p x
 
 -- after a wait the first time is looked at again where nothing was ready and an event has a time
 abbrev pub looks_again : Pool → List Want → Bool
-looks_again p [] = is_some (first p.times)
+looks_again p [] = is_some (first (times_here p))
 looks_again p (w ∷ ws) = false

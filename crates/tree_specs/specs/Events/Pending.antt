@@ -3,6 +3,7 @@ use Rattle.std.specs.Prelude.{ℕ, Bool, ◌&&◌, ◌||◌, not, nat_eq, nat_lt
 use Rattle.std.specs.List.{find, filter}
 use Rattle.tree_specs.specs.declared.due.Due.{Due}
 use Rattle.tree_specs.specs.declared.object.Obj.{Obj}
+use Rattle.tree_specs.specs.declared.coming.Coming.{Coming}
 use Rattle.tree_specs.specs.Words.Objects.{same}
 
 -- the first that waits
@@ -10,17 +11,24 @@ abbrev pub first : {A : Type 0} → List A → Option A
 first [] = None
 first (x ∷ xs) = Some x
 
--- ---- soon: first in, first out, each object once
+-- ---- soon: first in, first out, each object once, in one context
 
-abbrev pub is_scheduled : List Obj → Obj → Bool
-is_scheduled xs x = is_some (find (λ y. same y x) xs)
+abbrev pub is_scheduled : List Coming → Obj → Bool
+is_scheduled xs x = is_some (find (λ y. same y.object x) xs)
 
-abbrev pub unscheduled : List Obj → Obj → List Obj
-unscheduled xs x = filter (λ y. not (same y x)) xs
+abbrev pub unscheduled : List Coming → Obj → List Coming
+unscheduled xs x = filter (λ y. not (same y.object x)) xs
 
--- an object that waits already goes to the end
-abbrev pub scheduled : List Obj → Obj → List Obj
-scheduled xs x = unscheduled xs x ++ x ∷ []
+-- an object that waits already, in whatever context, goes to the end
+abbrev pub scheduled : List Coming → Obj → Obj → List Coming
+scheduled xs x c = unscheduled xs x ++ record { object = x; context = c } ∷ []
+
+-- what comes soon in a context, and what is left without this
+abbrev pub soon_in : List Coming → Obj → List Coming
+soon_in xs c = filter (λ y. same y.context c) xs
+
+abbrev pub soon_without : List Coming → Obj → List Coming
+soon_without xs c = filter (λ y. not (same y.context c)) xs
 
 -- ---- times: in the order of time and then number
 
@@ -43,5 +51,12 @@ put_in d [] = d ∷ []
 put_in d (e ∷ es) = if comes_before d e then d ∷ e ∷ es else e ∷ put_in d es
 
 -- an object that is armed already gets the new time
-abbrev pub armed : List Due → Obj → ℕ → ℕ → List Due
-armed ds x time number = put_in (record { time = time; number = number; object = x }) (disarmed ds x)
+abbrev pub armed : List Due → Obj → ℕ → ℕ → Obj → List Due
+armed ds x time number c = put_in (record { time = time; number = number; object = x; context = c }) (disarmed ds x)
+
+-- the times of a context, and what is left without them
+abbrev pub times_in : List Due → Obj → List Due
+times_in ds c = filter (λ d. same d.context c) ds
+
+abbrev pub times_without : List Due → Obj → List Due
+times_without ds c = filter (λ d. not (same d.context c)) ds

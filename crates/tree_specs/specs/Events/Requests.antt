@@ -8,6 +8,7 @@ use Rattle.tree_specs.specs.declared.handler.Handler.{Handler}
 use Rattle.tree_specs.specs.declared.request.Note.{Note}
 use Rattle.tree_specs.specs.declared.request.State.{State}
 use Rattle.tree_specs.specs.declared.request.State.TheVariants.{InProgress, Done, UserError, TimedOut, NoMemory, Received}
+use Rattle.tree_specs.specs.Words.Objects.{first_context}
 
 -- ---- states
 
@@ -60,20 +61,20 @@ renoted change notes x = renoted_by notes x change (note_of notes x)
 
 -- a request is made in progress, with this object of its own
 abbrev pub new_note : Obj → Note
-new_note child = record { state = InProgress; error = 0; callback = None; deferred = false; cleanup = 0; cleaned = 0; cancel = 0; child = child }
+new_note child = record { state = InProgress; error = 0; callback = None; deferred = None; cleanup = 0; cleaned = 0; cancel = 0; child = child }
 
 -- a routine with the number that it is told; 0 is none
 abbrev pub routine_of : ℕ → ℕ → Option Handler
-routine_of routine user = if nat_eq routine 0 then None else Some (record { routine = routine; user = user })
+routine_of routine user = if nat_eq routine 0 then None else Some (record { routine = routine; user = user; context = first_context })
 
 abbrev pub called_back : ℕ → ℕ → Note → Note
 called_back routine user n = record n { callback = routine_of routine user }
 
-abbrev pub deferring : Note → Note
-deferring n = record n { deferred = true }
+abbrev pub deferring : Obj → Note → Note
+deferring c n = record n { deferred = Some c }
 
 abbrev pub not_deferring : Note → Note
-not_deferring n = record n { deferred = false }
+not_deferring n = record n { deferred = None }
 
 -- a cleanup runs for the states after the present one
 abbrev pub cleaned_by : ℕ → Note → Note

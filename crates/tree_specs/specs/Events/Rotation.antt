@@ -5,7 +5,7 @@ use Rattle.std.specs.Option.{option_map}
 use Rattle.tree_specs.specs.declared.object.Obj.{Obj}
 use Rattle.tree_specs.specs.declared.wants.Want.{Want}
 use Rattle.tree_specs.specs.declared.watch.Watch.{Watch}
-use Rattle.tree_specs.specs.Words.Objects.{same}
+use Rattle.tree_specs.specs.Words.Objects.{same, is_same}
 
 -- ---- looking up
 
@@ -38,8 +38,8 @@ closes_with ws x = closed_by (watch_of ws x)
 -- ---- changing
 
 -- a new event is looked at after all others
-abbrev pub watched : List Watch → Obj → ℕ → ℕ → List Watch
-watched ws x fd flags = ws ++ record { object = x; fd = fd; flags = flags; closes = false } ∷ []
+abbrev pub watched : List Watch → Obj → ℕ → ℕ → Obj → List Watch
+watched ws x fd flags c = ws ++ record { object = x; fd = fd; flags = flags; closes = false; context = Some c } ∷ []
 
 abbrev pub unwatched : List Watch → Obj → List Watch
 unwatched ws x = filter (λ w. not (same w.object x)) ws
@@ -62,6 +62,20 @@ behind_all ws (Some w) = ws ++ w ∷ []
 -- an event that has come is looked at after all others
 abbrev pub turned_back : List Watch → Obj → List Watch
 turned_back ws x = behind_all (unwatched ws x) (watch_of ws x)
+
+-- ---- contexts
+
+-- the events of a context
+abbrev pub ring_in : List Watch → Obj → List Watch
+ring_in ws c = filter (λ w. is_same w.context c) ws
+
+-- its context is no more, and nobody looks at it
+abbrev pub lost : Watch → Watch
+lost w = record w { context = None }
+
+-- the events of a context are lost, behind those that are
+abbrev pub ring_without : List Watch → Obj → List Watch
+ring_without ws c = filter (λ w. not (is_same w.context c)) ws ++ map lost (ring_in ws c)
 
 -- ---- picking
 

@@ -15,8 +15,8 @@ Example = List Exchange
 abbrev pub text_of : List String → List ℕ
 text_of lines = flat_map (λ line. codes line ++ codes "\n") lines
 
-abbrev pub schedule_of : Example → List ℕ
-schedule_of example = text_of ("tv schedule 1 pool" ∷ map (λ exchange. exchange.0) example)
+abbrev pub schedule_of : String → Example → List ℕ
+schedule_of header example = text_of (header ∷ map (λ exchange. exchange.0) example)
 
 -- each of them ends with no caller but the host's own
 abbrev pub transcript_of : Example → List ℕ
@@ -24,7 +24,11 @@ transcript_of example = text_of ("tv transcript 1" ∷ map (λ exchange. exchang
 
 -- what the rules tell over its schedule, as text
 abbrev pub told : Example → Option (List ℕ)
-told example = transcript (items (story 1 (inputs_of (schedule_of example))))
+told example = transcript (items (story 1 (inputs_of (schedule_of "tv schedule 1 pool" example))))
+
+-- the same over a schedule of version 2
+abbrev pub told_in_2 : Example → Option (List ℕ)
+told_in_2 example = transcript (items (story 1 (inputs_of (schedule_of "tv schedule 2 pool" example))))
 
 -- what it is to be told
 abbrev pub wanted : Example → Option (List ℕ)

@@ -42,12 +42,14 @@ flaws =
     -- one field more
     ("tv schedule 1 pool\ncall pending 1\n", Some (2, Form)) ∷
     ("tv schedule 1 pool\ncall free 1\n", None) ∷
-    -- no context, one in the first version, and another than the first one
+    -- no context, one in the first version, one that is made in it, and numbers that are none
     ("tv schedule 2 pool\ncall turn\n", Some (2, Form)) ∷
     ("tv schedule 1 pool\ncall turn 0\n", Some (2, Form)) ∷
-    ("tv schedule 2 pool\ncall turn 1\n", Some (2, Form)) ∷
+    ("tv schedule 1 pool\ncall context 0\n", Some (2, Form)) ∷
+    ("tv schedule 2 pool\ncall turn 18446744073709551616\n", Some (2, Form)) ∷
     ("tv schedule 2 pool\ncall timer 0 7 16 0 00\n", Some (2, Form)) ∷
     ("tv schedule 2 pool\ncall timer 0 7 16 0 0\ncall turn 0\n", None) ∷
+    ("tv schedule 2 pool\ncall context 0\ncall turn 1\ncall turn 18446744073709551615\n", Some (4, NotAsked)) ∷
     -- another version
     ("tv schedule 3 pool\ncall free 1\n", Some (1, Form)) ∷
     []

@@ -5,6 +5,7 @@ use Rattle.tree_specs.specs.declared.question.Ask.TheVariants as asks
 use Rattle.tree_specs.specs.declared.row.Row.{Row}
 use Rattle.tree_specs.specs.declared.row.Mark.{Mark}
 use Rattle.tree_specs.specs.declared.frame.Frame.{Frame}
+use Rattle.tree_specs.specs.declared.kind.Kind.{Kind}
 use Rattle.tree_specs.specs.Tree.Pool.{Pool}
 use Rattle.tree_specs.specs.Tree.Inside.{total}
 use Rattle.tree_specs.specs.Invariants.Sound.{Sound}
@@ -111,11 +112,11 @@ abbrev pub sizes : List Frame → ℕ
 sizes [] = 0
 sizes (f ∷ fs) = size f + sizes fs
 
-abbrev pub mark_deposit : Mark → ℕ
-mark_deposit m = if is_some (phase_in m) then 3 else 0
+abbrev pub mark_deposit : Kind → Mark → ℕ
+mark_deposit k m = if is_some (phase_in k m) then 3 else 0
 
 abbrev pub deposit : Row → ℕ
-deposit r = mark_deposit r.mark
+deposit r = mark_deposit r.kind r.mark
 
 abbrev pub IsPaidFor : Frame → List Frame → Pool → Type 0
 IsPaidFor f fs p = innermost_size f + sizes fs ≤ total deposit p.rows + 2

@@ -1,7 +1,8 @@
 -- A measure that each step lowers, so that the stated number of turns is enough.
-use Rattle.std.specs.Prelude.{ℕ, ◌+◌, ◌*◌, List, [], ◌∷◌, is_some, if◌then◌else◌}
+use Rattle.std.specs.Prelude.{ℕ, ◌+◌, ◌*◌, List, [], ◌∷◌, Option, Some, None, is_some, if◌then◌else◌}
 use Rattle.tree_specs.specs.declared.object.Owner.{Owner}
 use Rattle.tree_specs.specs.declared.object.Owner.TheVariants.{Of}
+use Rattle.tree_specs.specs.declared.object.Obj.{Obj}
 use Rattle.tree_specs.specs.declared.row.Row.{Row}
 use Rattle.tree_specs.specs.declared.row.Mark.{Mark}
 use Rattle.tree_specs.specs.declared.frame.Frame.{Frame}
@@ -36,7 +37,7 @@ row_worth R = 4 * R + 24
 
 -- what an input is worth: two rows and a note that its call may add, and the call's own steps
 abbrev pub input_worth : ℕ → ℕ
-input_worth R = 24 * R + 148
+input_worth R = 24 * R + 156
 
 -- what a waiting work still costs
 abbrev pub waiting_cost : Frame → ℕ
@@ -62,9 +63,14 @@ look_cost AtBelow fs rows = below_wants rows fs
 abbrev pub top_cost : ℕ → Frame → List Frame → List Row → ℕ
 top_cost R f fs rows = (profile f).cost.rounds * R + (profile f).cost.steps + look_cost (profile f).cost.looks fs rows
 
+-- a context whose turn is under way may have to be freed after it
+abbrev pub turning_cost : Option Obj → ℕ
+turning_cost None = 0
+turning_cost (Some c) = 8
+
 -- the measure, for k inputs left
 abbrev pub cost : ℕ → Frame → List Frame → Pool → ℕ → ℕ
-cost R f fs p k = row_worth R * total (weight p.requests) p.rows + input_worth R * k + below_cost fs + top_cost R f fs p.rows
+cost R f fs p k = row_worth R * total (weight p.requests) p.rows + input_worth R * k + below_cost fs + turning_cost p.turning + top_cost R f fs p.rows
 
 -- the rows that a work may add, and those that it may add after the next input
 abbrev pub pending : Frame → ℕ

@@ -5,14 +5,14 @@ use Rattle.tree_specs.specs.declared.object.Owner.{Owner}
 use Rattle.tree_specs.specs.declared.object.Owner.TheVariants.{Of}
 use Rattle.tree_specs.specs.declared.row.Row.{Row}
 use Rattle.tree_specs.specs.declared.row.Mark.{Mark}
-use Rattle.tree_specs.specs.declared.row.Mark.TheVariants.{Quiet, Busy}
+use Rattle.tree_specs.specs.declared.row.Mark.TheVariants.{Quiet, Busy, Doomed}
 use Rattle.tree_specs.specs.declared.frame.Frame.{Frame}
 use Rattle.tree_specs.specs.declared.frame.Frame.TheVariants as frame
 use Rattle.tree_specs.specs.declared.frame.CallFrame.TheVariants.{Asking, Doing, Awaiting, Turning, Requesting, Announcing, Telling, Returning}
 use Rattle.tree_specs.specs.declared.frame.FreeFrame.{FreeFrame}
 use Rattle.tree_specs.specs.declared.frame.FreeFrame.TheVariants.{Unlinking, Releasing, Giving, Beginning, Hooked, Judged, Preparing, Draining, Prepared, Dooming, Leaving, Looping, FreeingChild, AfterChild, Ending}
 use Rattle.tree_specs.specs.declared.frame.TurnFrame.{TurnFrame}
-use Rattle.tree_specs.specs.declared.frame.TurnFrame.TheVariants.{Firing, Handling, Clearing, Serving}
+use Rattle.tree_specs.specs.declared.frame.TurnFrame.TheVariants.{Firing, Handling, Clearing, Serving, Parting}
 use Rattle.tree_specs.specs.declared.frame.RequestFrame.{RequestFrame}
 use Rattle.tree_specs.specs.declared.frame.RequestFrame.TheVariants as request
 use Rattle.tree_specs.specs.declared.frame.Purpose.{Purpose}
@@ -20,13 +20,14 @@ use Rattle.tree_specs.specs.declared.frame.Purpose.TheVariants.{Removal, Emptyin
 use Rattle.tree_specs.specs.declared.free_step.FreeReply.{FreeReply}
 use Rattle.tree_specs.specs.declared.free_step.FreeReply.TheVariants.{Ok, Held, Running, Refused}
 use Rattle.tree_specs.specs.Words.Objects.{same}
-use Rattle.tree_specs.specs.Tree.Targets.{target_of, newest_ref}
+use Rattle.tree_specs.specs.Tree.Targets.{target_of, newest_ref, is_context}
 use Rattle.tree_specs.specs.Tree.Pool.{Pool, row_of, owner_of, target_at, noted_owner, is_owner, is_inside}
 use Rattle.tree_specs.specs.Calls.Refusals.{is_referable, is_entry}
 use Rattle.tree_specs.specs.Tree.Forest.{IsForest}
 use Rattle.tree_specs.specs.Machine.Profiles.{Phase, Claim, former_in, phase_in, Waits, Never, AFree, ARun, AChild, ATurn, AHandler, AClear, ARequest, APrepared, AServed, ARoutine, ARelease, ADropping, profile}
 use Rattle.tree_specs.specs.declared.kind.Kind.{Kind}
-use Rattle.tree_specs.specs.Events.Coming.{comes_as}
+use Rattle.tree_specs.specs.Events.Coming.{comes_as, is_at_turn}
+use Rattle.tree_specs.specs.Events.Handlers.{handler_of}
 
 -- an owner or a former owner is another object; a dying row has no owner, and every other one has
 abbrev pub Owned : Option Owner → Obj → Type 0
@@ -50,12 +51,12 @@ abbrev pub all_of : Option Phase → List Phase
 all_of None = []
 all_of (Some a) = a ∷ []
 
-abbrev pub phase_of : Mark → List Phase
-phase_of m = all_of (phase_in m)
+abbrev pub phase_of : Kind → Mark → List Phase
+phase_of k m = all_of (phase_in k m)
 
 abbrev pub phases : Option Row → List Phase
 phases None = []
-phases (Some r) = phase_of r.mark
+phases (Some r) = phase_of r.kind r.mark
 
 abbrev pub claim_if : Bool → Phase → List Phase
 claim_if true a = a ∷ []
@@ -96,6 +97,7 @@ footing (frame.Free f ∷ fs) = OnFree f
 footing (frame.Call (Awaiting q x) ∷ fs) = OnCall
 footing (frame.Call (Turning q) ∷ fs) = OnTurning
 footing (frame.Turn (Clearing x) ∷ fs) = OnCall
+footing (frame.Turn (Parting c v) ∷ fs) = OnCall
 footing (frame.Request (request.Releasing c) ∷ fs) = OnCall
 footing (frame.Request (request.Dropping q e) ∷ fs) = OnDropping
 footing (frame.Call (Requesting q) ∷ fs) = OnRequesting
@@ -241,6 +243,20 @@ IsGivenUp x on p = IsCalled on × (r : Row) × (row_of p.rows x ≡ Some r) × I
 abbrev pub MayReceive : Obj → Pool → Type 0
 MayReceive x p = (r : Row) × (row_of p.rows x ≡ Some r)
 
+-- a turn of a context is under way
+abbrev pub is_at_turn_mark : Mark → Bool
+is_at_turn_mark Busy = true
+is_at_turn_mark Doomed = true
+is_at_turn_mark m = false
+
+abbrev pub IsTurning : Option Row → Type 0
+IsTurning None = ⊥
+IsTurning (Some r) = (is_context r.kind ≡ true) × (is_at_turn_mark r.mark ≡ true)
+
+abbrev pub TurnedAt : Option Obj → List Row → Type 0
+TurnedAt None rows = Unit {0}
+TurnedAt (Some c) rows = IsTurning (row_of rows c)
+
 -- what the innermost free rests on, by what it stands on and what the works below it claim
 abbrev pub FreeRests : FreeFrame → Footing → (Obj → List Phase) → Pool → Type 0
 FreeRests (Unlinking o x) on claimed p = IsGivenUp x on p
@@ -253,7 +269,7 @@ FreeRests (Preparing x) on claimed p = MayReceive x p
 FreeRests (Draining x) on claimed p = MayReceive x p
 FreeRests (Prepared x) on claimed p = Unit {0}
 FreeRests (Dooming x) on claimed p = Tries x on p × (newest_ref p.rows x ≡ None) × IsElsewhere on
-FreeRests (Leaving x h) on claimed p = (r : Row) × (row_of p.rows x ≡ Some r) × IsLive r.mark × (claimed x ≡ []) × (target_of r.kind ≡ None) × (newest_ref p.rows x ≡ None)
+FreeRests (Leaving x h) on claimed p = (r : Row) × (row_of p.rows x ≡ Some r) × IsLive r.mark × (claimed x ≡ []) × (target_of r.kind ≡ None) × (newest_ref p.rows x ≡ None) × (is_at_turn_mark r.mark ≡ false)
 FreeRests (Looping x purpose) on claimed p = Stands purpose on
 FreeRests (FreeingChild x c noted purpose) on claimed p = ⊥
 FreeRests (AfterChild x c noted purpose answer) on claimed p = StillThere answer x c noted p × Stands purpose on
@@ -261,10 +277,11 @@ FreeRests (Ending answer) on claimed p = IsOver answer × MayAnswer answer on
 
 -- a turn is a call's own, and a handler runs for an event of its kind, which is busy
 abbrev pub TurnRests : TurnFrame → Footing → Pool → Type 0
-TurnRests (Firing what x handler occasion) on p = IsTurned on × (r : Row) × (row_of p.rows x ≡ Some r) × (comes_as what r.kind ≡ true) × (r.mark ≡ Busy)
+TurnRests (Firing what x handler occasion) on p = IsTurned on × (r : Row) × (row_of p.rows x ≡ Some r) × (comes_as what r.kind ≡ true) × (r.mark ≡ Busy) × (handler_of p.handlers x ≡ Some handler) × (is_at_turn p handler.context ≡ true)
 TurnRests (Handling what x handler occasion) on p = IsTurned on × (k : Kind) × (comes_as what k ≡ true)
 TurnRests (Clearing x) on p = ⊥
 TurnRests (Serving x) on p = ⊥
+TurnRests (Parting c v) on p = ⊥
 TurnRests f on p = IsTurned on
 
 -- the work of a request is for what waits for it
@@ -301,4 +318,6 @@ pub record Sound (f : Frame) (fs : List Frame) (p : Pool) : Type 0 where
   -- one open turn; no other object is
   pub open_frees : (x : Obj) → claim x f ++ claims x fs ≡ phases (row_of p.rows x)
   pub waiting : AllWait fs
+  -- the context whose turn is under way is there
+  pub turned : TurnedAt p.turning p.rows
   pub rests : Rests f fs p

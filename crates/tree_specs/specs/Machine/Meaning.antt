@@ -9,7 +9,7 @@ use Rattle.tree_specs.specs.declared.frame.Frame.{Frame}
 use Rattle.tree_specs.specs.declared.frame.Frame.TheVariants as frame
 use Rattle.tree_specs.specs.declared.frame.CallFrame.TheVariants.{Asking, Doing, Awaiting, Turning, Requesting, Announcing, Telling, Returning}
 use Rattle.tree_specs.specs.declared.frame.FreeFrame.TheVariants.{Unlinking, Releasing, Giving, Beginning, Hooked, Judged, Preparing, Prepared, Dooming, Leaving, Looping, FreeingChild, AfterChild, Ending, Draining}
-use Rattle.tree_specs.specs.declared.frame.TurnFrame.TheVariants.{Taking, Timing, Timed, Polling, Starting, Firing, Handling, Handled, Clearing, Serving, Closing}
+use Rattle.tree_specs.specs.declared.frame.TurnFrame.TheVariants.{Taking, Timing, Timed, Polling, Starting, Firing, Handling, Handled, Clearing, Serving, Parting, Closing}
 use Rattle.tree_specs.specs.declared.frame.OutsideFrame.TheVariants.{Reaching, Opening, Hearing}
 use Rattle.tree_specs.specs.declared.frame.RequestFrame.{RequestFrame}
 use Rattle.tree_specs.specs.declared.frame.RequestFrame.TheVariants as request
@@ -97,6 +97,7 @@ mean n (frame.Turn (Handling what x handler occasion)) b = ends_as Turned (handl
 mean n (frame.Turn (Handled what x)) b = ends_as Turned (handled n what x)
 mean n (frame.Turn (Clearing x)) b = gives (Freed Ok)
 mean n (frame.Turn (Serving x)) b = gives (Freed Ok)
+mean n (frame.Turn (Parting c v)) b = gives (Freed Ok)
 mean n (frame.Turn (Closing v)) b = ends_as Turned (closing n v)
 mean n (frame.Outside (Reaching q)) b = ends_as Heard (reaching n q)
 mean n (frame.Outside (Opening fd)) b = ends_as Heard (opening n fd)

@@ -13,7 +13,7 @@ use Rattle.tree_specs.specs.declared.frame.CallFrame.TheVariants.{Asking, Doing,
 use Rattle.tree_specs.specs.declared.frame.FreeFrame.{FreeFrame}
 use Rattle.tree_specs.specs.declared.frame.FreeFrame.TheVariants.{Unlinking, Releasing, Giving, Beginning, Hooked, Judged, Preparing, Draining, Prepared, Dooming, Leaving, Looping, FreeingChild, AfterChild, Ending}
 use Rattle.tree_specs.specs.declared.frame.TurnFrame.{TurnFrame}
-use Rattle.tree_specs.specs.declared.frame.TurnFrame.TheVariants.{Taking, Timing, Timed, Polling, Starting, Firing, Handling, Handled, Clearing, Serving, Closing}
+use Rattle.tree_specs.specs.declared.frame.TurnFrame.TheVariants.{Taking, Timing, Timed, Polling, Starting, Firing, Handling, Handled, Clearing, Serving, Parting, Closing}
 use Rattle.tree_specs.specs.declared.frame.OutsideFrame.{OutsideFrame}
 use Rattle.tree_specs.specs.declared.frame.OutsideFrame.TheVariants.{Reaching, Opening, Hearing}
 use Rattle.tree_specs.specs.declared.frame.RequestFrame.{RequestFrame}
@@ -22,6 +22,8 @@ use Rattle.tree_specs.specs.declared.frame.Purpose.{Purpose}
 use Rattle.tree_specs.specs.declared.frame.Purpose.TheVariants.{Removal, Emptying}
 use Rattle.tree_specs.specs.declared.free_step.FreeReply.{FreeReply}
 use Rattle.tree_specs.specs.declared.free_step.FreeReply.TheVariants.{Running}
+use Rattle.tree_specs.specs.declared.kind.Kind.{Kind}
+use Rattle.tree_specs.specs.Tree.Targets.{is_context}
 
 -- what is going on with an object
 pub data Phase : Type 0 where
@@ -39,11 +41,12 @@ abbrev pub former_in : Mark → Option Owner
 former_in (Dying former) = Some former
 former_in _ = None
 
-abbrev pub phase_in : Mark → Option Phase
-phase_in Quiet = None
-phase_in (Dying former) = Some InLoop
-phase_in Asked = Some InRun
-phase_in _ = Some InHandler
+-- a turn of a context is no work's own
+abbrev pub phase_in : Kind → Mark → Option Phase
+phase_in k Quiet = None
+phase_in k (Dying former) = Some InLoop
+phase_in k Asked = Some InRun
+phase_in k _ = if is_context k then None else Some InHandler
 
 -- ---- what a work says of itself
 
@@ -220,7 +223,7 @@ a_caller q = record { ask = Some q; waits = Never; size = caller_size; waiting_c
 
 abbrev pub call_profile : CallFrame → CallProfile
 call_profile (Asking q) = a_caller q
-call_profile (Doing q c) = record (a_caller q) { cost = at_most 24 147 AtNone; adds = 2 }
+call_profile (Doing q c) = record (a_caller q) { cost = at_most 24 155 AtNone; adds = 2 }
 call_profile (Awaiting q x) = record (a_caller q) { waits = AFree x; waiting_cost = 1 }
 call_profile (Turning q) = record (a_caller q) { waits = ATurn; size = 0 }
 call_profile (Requesting q) = record (a_caller q) { waits = ARequest; size = 0 }
@@ -260,6 +263,7 @@ turn_profile (Handled what x) = record (a_turn 8) { claims = handles x; size = 5
 turn_profile (Clearing x) = record (a_turn 0) { waits = AClear x }
 -- the request weighs as much in its place
 turn_profile (Serving x) = record (a_turn 0) { waits = AServed x; size = 0 }
+turn_profile (Parting c v) = record (a_turn 0) { waits = AClear c }
 turn_profile (Closing v) = a_turn 2
 
 abbrev pub of_turn : TurnProfile → Profile

@@ -1,7 +1,6 @@
 -- The same rules as tables of single steps, one row for each kind of open work.
 use Rattle.std.specs.Prelude.{ℕ, ◌-◌, Bool, true, false, nat_eq, nat_le, List, Option, Some, None, if◌then◌else◌}
-use Rattle.step_machine.specs.Machine.{Move, Table}
-use Rattle.step_machine.specs.Machine.{Move as Do}
+use Rattle.step_machine.specs.Machine.{Move, Table, Move as Do}
 use Rattle.step_machine.specs.Noted.{Notes}
 use Rattle.tree_specs.specs.declared.object.Obj.{Obj}
 use Rattle.tree_specs.specs.declared.row.Mark.TheVariants as mark
@@ -32,7 +31,7 @@ use Rattle.tree_specs.specs.declared.frame.CallFrame.TheVariants.{Asking, Doing,
 use Rattle.tree_specs.specs.declared.frame.FreeFrame.{FreeFrame}
 use Rattle.tree_specs.specs.declared.frame.FreeFrame.TheVariants.{Unlinking, Beginning, Hooked, Judged, Preparing, Prepared, Looping, Draining}
 use Rattle.tree_specs.specs.declared.frame.TurnFrame.{TurnFrame}
-use Rattle.tree_specs.specs.declared.frame.TurnFrame.TheVariants.{Taking, Timing, Timed, Polling, Starting, Firing, Handling, Handled, Clearing, Serving, Closing}
+use Rattle.tree_specs.specs.declared.frame.TurnFrame.TheVariants.{Taking, Timing, Timed, Polling, Starting, Firing, Handling, Handled, Clearing, Serving, Parting, Closing}
 use Rattle.tree_specs.specs.declared.frame.OutsideFrame.{OutsideFrame}
 use Rattle.tree_specs.specs.declared.frame.OutsideFrame.TheVariants.{Reaching, Opening, Hearing}
 use Rattle.tree_specs.specs.declared.frame.RequestFrame.{RequestFrame}
@@ -46,16 +45,17 @@ use Rattle.tree_specs.specs.declared.free_step.FreeReply.{FreeReply}
 use Rattle.tree_specs.specs.declared.free_step.FreeReply.TheVariants.{Ok}
 use Rattle.tree_specs.specs.declared.free_step.FreeStep.{FreeStep}
 use Rattle.tree_specs.specs.declared.free_step.FreeStep.TheVariants.{Ask as AskOf, Prepare, Dropped, Refused, Accepted, Doom, Left, Moved, Gone, Done as Over, Drain}
-use Rattle.tree_specs.specs.Tree.Pool.{Pool, set_mark, schedule, unschedule, disarm, open_descriptor, renote, finish, receive, run_queue, trigger}
+use Rattle.tree_specs.specs.declared.coming.Coming.{Coming}
+use Rattle.tree_specs.specs.Tree.Pool.{Pool, set_mark, soon_here, times_here, ring_here, enter, exit, unschedule, disarm, open_descriptor, renote, schedule_deferred, finish, receive, run_queue, trigger}
 use Rattle.tree_specs.specs.Events.Pending.{first}
 use Rattle.tree_specs.specs.Events.Queues.{Head, has_queue, head_of, next_of}
-use Rattle.tree_specs.specs.Events.Requests.{state_number, note_of, is_noted, is_unreceived, cleanup_in, cancel_in, cleaned, not_deferring}
+use Rattle.tree_specs.specs.Events.Requests.{state_number, note_of, is_noted, is_unreceived, cleanup_in, cancel_in, cleaned}
 use Rattle.tree_specs.specs.Rules.Errands.{reply_to, cancelled_reply, is_receive, after_routine}
 use Rattle.tree_specs.specs.Events.Rotation.{Ready, closes_with, first_ready}
 use Rattle.tree_specs.specs.Events.Coming.{wait_limit, handler_for, handler_moment, at_time, with_flags, plainly, begun, goes_after, looks_again}
 use Rattle.tree_specs.specs.Rules.Items.{Item}
 use Rattle.tree_specs.specs.Rules.Items.Item.{Told, Asked}
-use Rattle.tree_specs.specs.Calls.Refusals.{Check, refusals}
+use Rattle.tree_specs.specs.Calls.Refusals.{Check, refusals_at, is_doomed}
 use Rattle.tree_specs.specs.Calls.Plans.{Plan, plan, planned, unless_refused, changed_by}
 use Rattle.tree_specs.specs.Calls.Plans.Plan.{Does, Frees, Unlinks, Empties, Asks, Turns, Works}
 use Rattle.tree_specs.specs.Rules.Sequence.{CallStart}
@@ -116,9 +116,9 @@ notice_step None q r p = replied q r p
 notice_step (Some notice) q r p = Do.Go (frame.Call (Announcing (later q r) notice r)) p
 
 -- a turn is for the host's own caller alone
-abbrev pub turning_step : Ask → Pool → Step
-turning_step Quiet p = Do.Call (frame.Turn Taking) (frame.Call (Turning Quiet)) p
-turning_step q p = replied q (reply.No refusal.Nested) p
+abbrev pub turning_step : Ask → Obj → Pool → Step
+turning_step Quiet c p = Do.Call (frame.Turn Taking) (frame.Call (Turning Quiet)) (enter p c)
+turning_step q c p = replied q (reply.No refusal.Nested) p
 
 -- an errand of a request, as a work
 abbrev pub work_of : Errand → Obj → Frame
@@ -134,7 +134,7 @@ plan_step q (Frees x) p = Do.Call (frame.Free (Beginning x)) (frame.Call (Awaiti
 plan_step q (Unlinks o x) p = Do.Call (frame.Free (Unlinking o x)) (frame.Call (Awaiting q x)) p
 plan_step q (Empties x) p = Do.Call (frame.Free (Looping x Emptying)) (frame.Call (Awaiting q x)) p
 plan_step q (Asks outside) p = Do.Call (frame.Outside (Reaching outside)) (frame.Call (Turning q)) p
-plan_step q Turns p = turning_step q p
+plan_step q (Turns c) p = turning_step q c p
 plan_step q (Works c errand x) p = Do.Call (work_of errand x) (frame.Call (Requesting q)) (changed_by c p)
 
 -- the first refusal that applies, otherwise the plan
@@ -143,7 +143,7 @@ call_step check q c p = plan_step q (unless_refused check (plan p c)) p
 
 abbrev pub caller_step : CallFrame → Pool → Step
 caller_step (Asking q) p = Do.Wait (Asked q) (frame.Call (Asking q)) p
-caller_step (Doing q c) p = call_step (refusals p c) q c p
+caller_step (Doing q c) p = call_step (refusals_at q p c) q c p
 -- it waits for the work above it
 caller_step (Awaiting q x) p = Do.Done (Freed Ok) p
 caller_step (Turning q) p = Do.Done (Freed Ok) p
@@ -179,9 +179,9 @@ soon_step true x p = Do.Call (work_of Notify x) (frame.Turn (Serving x)) p
 soon_step false x p = queue_step (has_queue p.queues x) x p
 
 -- those that come soon are first
-abbrev pub taking_step : Option Obj → Pool → Step
-taking_step None p = due_step (first p.times) p
-taking_step (Some x) p = soon_step (is_noted p.requests x) x (unschedule p x)
+abbrev pub taking_step : Option Coming → Pool → Step
+taking_step None p = due_step (first (times_here p)) p
+taking_step (Some y) p = soon_step (is_noted p.requests y.object) y.object (unschedule p y.object)
 
 -- where the first time hasn't come it is asked once what is ready, until then at the longest
 abbrev pub early_step : Bool → Due → ℕ → Pool → Step
@@ -202,10 +202,19 @@ abbrev pub handled_step : Obj → Bool → Pool → Step
 handled_step x true p = Do.Call (frame.Free (Beginning x)) (frame.Turn (Clearing x)) (set_mark p x mark.Quiet)
 handled_step x false p = Do.Go (frame.Turn (Closing 1)) (set_mark p x mark.Quiet)
 
+-- after the turn a context is quiet again, or is freed
+abbrev pub parting_step : Obj → ℕ → Bool → Pool → Step
+parting_step c v true p = Do.Call (frame.Free (Beginning c)) (frame.Turn (Parting c v)) (exit p c)
+parting_step c v false p = Do.Done (Turned v) (exit p c)
+
+abbrev pub closing_step : ℕ → Option Obj → Pool → Step
+closing_step v None p = Do.Done (Turned v) p
+closing_step v (Some c) p = parting_step c v (is_doomed p c) p
+
 abbrev pub turn_step : TurnFrame → Pool → Step
-turn_step Taking p = taking_step (first p.soon) p
+turn_step Taking p = taking_step (first (soon_here p)) p
 turn_step (Timing again) p = Do.Wait (Asked Clock) (frame.Turn (Timing again)) p
-turn_step (Timed again now) p = timed_step again now (first p.times) p
+turn_step (Timed again now) p = timed_step again now (first (times_here p)) p
 turn_step (Polling limit) p = Do.Wait (Asked (Wait limit)) (frame.Turn (Polling limit)) p
 turn_step (Starting what x occasion) p = starting_step what x occasion (handler_for p what x) p
 turn_step (Firing what x handler occasion) p = Do.Emit (Told (event.Fired what x handler.routine)) (frame.Turn (Handling what x handler occasion)) p
@@ -214,7 +223,8 @@ turn_step (Handled what x) p = handled_step x (goes_after p what x) p
 -- it waits for the work above it
 turn_step (Clearing x) p = Do.Done (Freed Ok) p
 turn_step (Serving x) p = Do.Done (Freed Ok) p
-turn_step (Closing v) p = Do.Done (Turned v) p
+turn_step (Parting c v) p = Do.Done (Freed Ok) p
+turn_step (Closing v) p = closing_step v p.turning p
 
 -- ---- a question to the outside
 
@@ -259,11 +269,13 @@ callback_step x errand None p = over_step errand p
 callback_step x errand (Some handler) p = Do.Go (calling_one ForCallback x handler errand) p
 
 -- a request whose callback is deferred comes soon
+abbrev pub deferred_step : Obj → Errand → Option Obj → Option Handler → Pool → Step
+deferred_step x errand (Some c) callback p = over_step errand (schedule_deferred p x c)
+deferred_step x errand None callback p = callback_step x errand callback p
+
 abbrev pub notifying_step : Obj → Errand → Option Note → Pool → Step
 notifying_step x errand None p = over_step errand p
-notifying_step x errand (Some n) p =
-    if n.deferred then over_step errand (schedule (renote p x not_deferring) x)
-    else callback_step x errand n.callback p
+notifying_step x errand (Some n) p = deferred_step x errand n.deferred n.callback p
 
 -- a request is received once
 abbrev pub receiving_step : Obj → Bool → Pool → Step
@@ -338,6 +350,7 @@ abbrev pub turn_resume : TurnFrame → TurnFrame
 turn_resume (Handling what x handler occasion) = Handled what x
 turn_resume (Clearing x) = Closing 1
 turn_resume (Serving x) = Closing 1
+turn_resume (Parting c v) = Closing v
 turn_resume f = f
 
 abbrev pub request_resume : RequestFrame → Answer → RequestFrame
@@ -377,7 +390,7 @@ ready_turn (Some r) = frame.Turn (Starting ForDescriptor r.object (with_flags r.
 
 -- after a wait in which nothing was ready the clock is asked again, where an event has a time
 abbrev pub looked_turn : Pool → List Want → Frame
-looked_turn p wants = if looks_again p wants then frame.Turn (Timing true) else ready_turn (first_ready p.ring wants)
+looked_turn p wants = if looks_again p wants then frame.Turn (Timing true) else ready_turn (first_ready (ring_here p) wants)
 
 abbrev pub turn_taken : TurnFrame → Pool → Input → Option Frame
 turn_taken (Timing again) p i = clocked (timed_turn again) i

@@ -171,7 +171,7 @@ unlinked_refused_unheard = unlinked one_object (No (RefusedBy a 1)) ∷ []
 
 -- a queue that doesn't run, and an entry in it of the second object, a request
 abbrev pub one_stopped : Pool
-one_stopped = run_queue (add_entry (add_request (add_queue (empty 1) Root (97 ∷ [])) Root 0 (97 ∷ [])) a b (record { routine = 16; user = 0 })) a false
+one_stopped = run_queue (add_entry (add_request (add_queue (empty 1) Root (97 ∷ [])) Root 0 (97 ∷ [])) a b (record { routine = 16; user = 0; context = record { 0 = 0 } })) a false
 
 -- a routine runs for no object, for a timer that is quiet, as that of another kind, for a plain object as for a request, and for
 -- an entry whose turn it isn't; a destructor accepts unasked, while its object is quiet, and while this is busy

@@ -21,9 +21,12 @@ use Rattle.tree_specs.specs.declared.reply.Refusal.{Refusal}
 use Rattle.tree_specs.specs.declared.reply.Refusal.TheVariants.{Held, Running, Refused as RefusedBy}
 use Rattle.tree_specs.specs.declared.question.Input.{Input}
 use Rattle.tree_specs.specs.declared.event.Event.TheVariants.{Replied, Fired, Accepted, Refused, Unreferenced}
+use Rattle.tree_specs.specs.declared.handler.Handler.{Handler}
 use Rattle.tree_specs.specs.Words.Objects.{same}
 use Rattle.tree_specs.specs.Tree.Pool.{Pool, row_of, passes, is_object, is_owner, is_inside}
 use Rattle.tree_specs.specs.Events.Queues.{Head, next_of}
+use Rattle.tree_specs.specs.Events.Coming.{is_at_turn}
+use Rattle.tree_specs.specs.Events.Handlers.{handler_of}
 use Rattle.tree_specs.specs.Calls.Refusals.{is_held, is_running, is_interested, is_entry_row}
 use Rattle.tree_specs.specs.Rules.Items.{Item}
 use Rattle.tree_specs.specs.Rules.Items.Item.{Told}
@@ -127,9 +130,19 @@ abbrev pub IsTurn : What → Pool → Obj → ℕ → Type 0
 IsTurn what.Trigger p x routine = HasTurn p x routine
 IsTurn w p x routine = Unit {0}
 
--- a routine starts for a live object, and a trigger where it is its turn; a destructor accepts right after a question to it, while its object is asked
+-- an event comes in a turn of its context
+abbrev pub HasContext : Pool → Obj → Type 0
+HasContext p x = (h : Handler) × (handler_of p.handlers x ≡ Some h) × (is_at_turn p h.context ≡ true)
+
+abbrev pub InContext : What → Pool → Obj → Type 0
+InContext what.Timer p x = HasContext p x
+InContext what.Immediate p x = HasContext p x
+InContext what.Descriptor p x = HasContext p x
+InContext w p x = Unit {0}
+
+-- a routine starts for a live object, that of an event in a turn of its context, and a trigger where it is its turn; a destructor accepts right after a question to it, while its object is asked
 abbrev pub Started : List Scene → Item → Pool → Type 0
-Started before (Told (Fired w x routine)) p = (may_fire_row w (row_of p.rows x) ≡ true) × IsTurn w p x routine
+Started before (Told (Fired w x routine)) p = (may_fire_row w (row_of p.rows x) ≡ true) × IsTurn w p x routine × InContext w p x
 Started before (Told (Accepted x)) p = (is_asked p x ≡ true) × LastIs (AsksHook x) before
 Started before item p = Unit {0}
 

@@ -24,7 +24,7 @@ use Rattle.tree_specs.specs.declared.question.Ask.TheVariants as ask
 use Rattle.tree_specs.specs.declared.free_step.FreeReply.{FreeReply}
 use Rattle.tree_specs.specs.declared.free_step.FreeReply.TheVariants as free_reply
 use Rattle.tree_specs.specs.declared.free_step.FreeReply.TheVariants.{Ok, Held, Running}
-use Rattle.tree_specs.specs.Tree.Pool.{Pool, is_below, owner_of, is_inside, remove, place, set_mark, disarm}
+use Rattle.tree_specs.specs.Tree.Pool.{Pool, is_below, owner_of, is_inside, remove, place, set_mark, disarm, enter}
 use Rattle.tree_specs.specs.Events.Rotation.{closes_with}
 use Rattle.tree_specs.specs.Events.Requests.{state_number, is_noted}
 use Rattle.tree_specs.specs.Events.Coming.{at_time}
@@ -42,15 +42,17 @@ numbered work = do
   n ← work
   gives (reply.Number n)
 
--- a turn is for the host's own caller alone, since a routine that runs may be in one
-abbrev pub turned : Ask → Work ℕ → Work Reply
-turned ask.Quiet turn = numbered turn
-turned q turn = gives (reply.No refusal.Nested)
+-- a turn of a context is for the host's own caller alone, since a routine that runs may be in one
+abbrev pub turned : Ask → Work ℕ → Obj → Work Reply
+turned ask.Quiet turn c = do
+  change (λ p. enter p c)
+  numbered turn
+turned q turn c = gives (reply.No refusal.Nested)
 
 -- A plan carried out, with the reply to it. `free` frees an object, `unlink` takes an owner's interest in it away,
 -- `children` frees those of an object, `reach` asks the outside, `turn` is a turn of the event loop, and `work` does an
 -- errand of a request.
-abbrev pub effect : (Obj → Work FreeReply) → (Owner → Obj → Work FreeReply) → (Obj → Work (Unit {0})) → (Ask → Work Reply) → Work Reply → (Errand → Obj → Work Reply) → Plan → Work Reply
+abbrev pub effect : (Obj → Work FreeReply) → (Owner → Obj → Work FreeReply) → (Obj → Work (Unit {0})) → (Ask → Work Reply) → (Obj → Work Reply) → (Errand → Obj → Work Reply) → Plan → Work Reply
 effect free unlink children reach turn work (Does c notice r) = do
   change (λ p. changed_by c p)
   gives r
@@ -64,7 +66,7 @@ effect free unlink children reach turn work (Empties x) = do
   children x
   gives reply.Ok
 effect free unlink children reach turn work (Asks q) = reach q
-effect free unlink children reach turn work Turns = turn
+effect free unlink children reach turn work (Turns c) = turn c
 effect free unlink children reach turn work (Works c errand x) = do
   change (λ p. changed_by c p)
   work errand x

@@ -26,16 +26,17 @@ use Rattle.tree_specs.specs.declared.free_step.FreeReply.{FreeReply}
 use Rattle.tree_specs.specs.declared.free_step.FreeReply.TheVariants as free_reply
 use Rattle.tree_specs.specs.declared.free_step.FreeReply.TheVariants.{Ok, Held, Running}
 use Rattle.tree_specs.specs.Tree.Targets.{newest_ref}
-use Rattle.tree_specs.specs.Tree.Pool.{Pool, empty, row_of, owner_of, newest_ref_of, target_at, noted_owner, first_kid, detach, remove, place, set_mark, doom, set_hook, schedule, unschedule, open_descriptor, renote, finish, receive, run_queue, trigger}
+use Rattle.tree_specs.specs.Tree.Pool.{Pool, empty, row_of, owner_of, newest_ref_of, target_at, noted_owner, first_kid, detach, remove, place, set_mark, doom, set_hook, soon_here, times_here, ring_here, exit, unschedule, open_descriptor, renote, schedule_deferred, finish, receive, run_queue, trigger}
 use Rattle.tree_specs.specs.Events.Pending.{first}
-use Rattle.tree_specs.specs.Events.Requests.{note_of, is_noted, is_unreceived, cleanup_in, cancel_in, cleaned as is_cleaned, not_deferring}
+use Rattle.tree_specs.specs.Events.Requests.{note_of, is_noted, is_unreceived, cleanup_in, cancel_in, cleaned as is_cleaned}
 use Rattle.tree_specs.specs.Events.Queues.{has_queue, head_of, next_of}
 use Rattle.tree_specs.specs.Rules.Errands.{reply_to, cancelled_reply, is_receive, after_routine}
 use Rattle.tree_specs.specs.Events.Rotation.{first_ready}
 use Rattle.tree_specs.specs.Events.Coming.{wait_limit, handler_for, handler_moment, with_flags, plainly, begun, goes_after, looks_again}
 use Rattle.tree_specs.specs.Rules.Items.{Item}
 use Rattle.tree_specs.specs.Rules.Items.Item.{Told, Asked}
-use Rattle.tree_specs.specs.Calls.Plans.{planned, notice_of}
+use Rattle.tree_specs.specs.Calls.Plans.{planned, planned_at, notice_of}
+use Rattle.tree_specs.specs.Calls.Refusals.{is_doomed}
 use Rattle.tree_specs.specs.Rules.Answers.{hook_moment, later, heard, clocked, polled, reached}
 use Rattle.tree_specs.specs.Rules.Sequence.{Work, Scene, CallStart, ◌>>=◌, ◌>>◌, gives, pool, change, tells, told_about, asks, short}
 use Rattle.tree_specs.specs.Rules.Pieces.{turned, effect, work_by, comes, falls_due, enters, freed_quietly, hand_on_after, drops, lets_go, notice_event, from_newest, from_quiet}
@@ -177,8 +178,8 @@ abbrev mutual
   acting zero q c = short
   acting (suc n) q c = do
     p ← pool
-    r ← effect (free n) (unlink n) (children n) (reaching n) (turned q (taking n)) (work_by (finishing n) (notifying n) (receiving n) (cancelling n)) (planned p c)
-    elim (notice_of (planned p c)) [
+    r ← effect (free n) (unlink n) (children n) (reaching n) (turned q (taking n)) (work_by (finishing n) (notifying n) (receiving n) (cancelling n)) (planned_at q p c)
+    elim (notice_of (planned_at q p c)) [
       | None ↦ telling n (Some (record { call = c; start = p })) (later q r) r
       | Some notice ↦ announcing n (Some (record { call = c; start = p })) (later q r) notice r
     ]
@@ -206,11 +207,11 @@ abbrev mutual
   taking zero = short
   taking (suc n) = do
     p ← pool
-    elim (first p.soon) [
-      | Some x ↦ (do
-        change (λ q. unschedule q x)
-        comes (is_noted p.requests x) (notifying n x Notify) (closing n 1) (comes (has_queue p.queues x) (triggering n x) (closing n 1) (starting n ForImmediate x plainly)))
-      | None ↦ elim (first p.times) [
+    elim (first (soon_here p)) [
+      | Some y ↦ (do
+        change (λ q. unschedule q y.object)
+        comes (is_noted p.requests y.object) (notifying n y.object Notify) (closing n 1) (comes (has_queue p.queues y.object) (triggering n y.object) (closing n 1) (starting n ForImmediate y.object plainly)))
+      | None ↦ elim (first (times_here p)) [
         | None ↦ polling n wait_limit
         | Some d ↦ if nat_eq d.time 0
             then falls_due p d.object 0 (finishing n) (closing n 1) (starting n)
@@ -227,7 +228,7 @@ abbrev mutual
   timed zero again now = short
   timed (suc n) again now = do
     p ← pool
-    elim (first p.times) [
+    elim (first (times_here p)) [
       | None ↦ closing n 0
       | Some d ↦ if nat_le d.time now
           then falls_due p d.object now (finishing n) (closing n 1) (starting n)
@@ -240,7 +241,7 @@ abbrev mutual
   polling zero limit = short
   polling (suc n) limit = asks (Asked (ask.Wait limit)) (polled limit (λ wants. do
     p ← pool
-    if looks_again p wants then timing n true else elim (first_ready p.ring wants) [
+    if looks_again p wants then timing n true else elim (first_ready (ring_here p) wants) [
       | None ↦ closing n 0
       | Some r ↦ starting n ForDescriptor r.object (with_flags r.flags)
     ]))
@@ -334,21 +335,22 @@ abbrev mutual
           else notifying n x errand
     ]
 
-  -- a request whose callback is deferred comes soon; otherwise its callback runs, where it has one
+  -- a request whose callback is deferred comes soon, in a context that is kept for this; otherwise its callback runs, where it has one
   pub notifying : ℕ → Obj → Errand → Work Reply
   notifying zero x errand = short
   notifying (suc n) x errand = do
     p ← pool
     elim (note_of p.requests x) [
       | None ↦ over n (reply_to errand)
-      | Some note ↦ if note.deferred
-          then (do
-            change (λ q. schedule (renote q x not_deferring) x)
-            over n (reply_to errand))
-          else elim note.callback [
-            | None ↦ over n (reply_to errand)
-            | Some handler ↦ calling n ForCallback x handler errand
-          ]
+      | Some note ↦ elim note.deferred [
+        | Some c ↦ (do
+          change (λ q. schedule_deferred q x c)
+          over n (reply_to errand))
+        | None ↦ elim note.callback [
+          | None ↦ over n (reply_to errand)
+          | Some handler ↦ calling n ForCallback x handler errand
+        ]
+      ]
     ]
 
   -- a routine of a request runs
@@ -411,9 +413,21 @@ abbrev mutual
   hearing zero r = short
   hearing (suc n) r = gives r
 
+  -- The turn is over. Its context is quiet again, or is freed where this was to be done meanwhile.
   pub closing : ℕ → ℕ → Work ℕ
   closing zero v = short
-  closing (suc n) v = gives v
+  closing (suc n) v = do
+    p ← pool
+    elim p.turning [
+      | None ↦ gives v
+      | Some c ↦ (do
+        change (λ q. exit q c)
+        if is_doomed p c
+            then (do
+              answer ← free n c
+              closing n v)
+            else gives v)
+    ]
 
 -- turns enough for r rows and a inputs
 abbrev pub turns : ℕ → ℕ → ℕ

@@ -20,7 +20,7 @@ use Rattle.tree_specs.specs.Words.Octets.{is_octets}
 use Rattle.tree_specs.specs.Calls.Spelling.{Numeral, Reading, Form, forms}
 use Rattle.tree_specs.specs.Calls.Spelling.Numeral.{Number32, Positive32, Time, Length}
 use Rattle.tree_specs.specs.Calls.Spelling.Reading.{NoMore, TakesOwner, TakesObject, TakesNumeral, EndsInName, EndsInBytes, EndsInContext}
-use Rattle.tree_specs.specs.Words.Objects.{numbered_owner}
+use Rattle.tree_specs.specs.Words.Objects.{numbered_owner, first_context}
 use Rattle.tree_specs.specs.Words.Ranges.{is_in}
 use Rattle.tree_specs.specs.Words.Wants.{is_wants}
 
@@ -61,12 +61,6 @@ object_of text = do
 unfoldable pub name_of : Version → List ℕ → Option (List ℕ)
 name_of v text = if is_name_in v text then Some text else None
 
--- the first context, which is the only one
-unfoldable pub context_of : List ℕ → Option (Unit {0})
-context_of text = do
-  n ← number_of text
-  if n == 0 then Some tt else None
-
 -- these bytes, where this is their one spelling
 abbrev pub if_spelled : List ℕ → Result (List ℕ) FromHexError → Option (List ℕ)
 if_spelled text (Ok bytes) = if bytes_eq (encode_lower bytes) text && is_octets bytes then Some bytes else None
@@ -105,10 +99,10 @@ with_field reader words next = do
   first ← field reader words
   next first.0 first.1
 
--- the context that a call says last; in version 1 none is said
-abbrev pub context_at : Version → List (List ℕ) → Option (Unit {0} × List (List ℕ))
-context_at One words = Some (tt, words)
-context_at Two words = field context_of words
+-- the context that a call says last; in version 1 none is said, and it is the first one
+abbrev pub context_at : Version → List (List ℕ) → Option (Obj × List (List ℕ))
+context_at One words = Some (first_context, words)
+context_at Two words = field object_of words
 
 -- the call that the words begin with, by what it takes, and the words that it leaves; a name is the last word, and so are bytes
 abbrev pub taken : Version → Reading → List (List ℕ) → Option (Call × List (List ℕ))
@@ -124,7 +118,7 @@ taken v (EndsInBytes call) words = do
   Some (call bytes.0, bytes.1)
 taken v (EndsInContext call) words = do
   context ← context_at v words
-  Some (call, context.1)
+  Some (call context.0, context.1)
 
 -- what was read, where no word is left
 abbrev pub ended : {A : Type 0} → A × List (List ℕ) → Option A
@@ -146,7 +140,7 @@ form_in (f ∷ fs) verb = if bytes_eq verb f.verb then Some f.reading else form_
 unfoldable pub call_of_words : Version → List (List ℕ) → Option Call
 call_of_words v [] = None
 call_of_words v (verb ∷ fields) = do
-  reading ← form_in forms verb
+  reading ← form_in (forms v) verb
   read v reading fields
 
 unfoldable pub call_of : Version → List ℕ → Option Call

@@ -37,7 +37,7 @@ field_text (AnObject x) = decimal x.0
 field_text (ANumeral kind n) = decimal n
 field_text (AName name) = name
 field_text (SomeBytes bytes) = encode_lower bytes
-field_text TheContext = decimal 0
+field_text (TheContext c) = decimal c.0
 
 -- the verb and the fields, with single spaces between them
 unfoldable pub call_text : Version → Call → List ℕ
@@ -98,6 +98,7 @@ row_kind_text row_kinds.Fd = codes "fd"
 row_kind_text row_kinds.Request = codes "request"
 row_kind_text row_kinds.Queue = codes "queue"
 row_kind_text row_kinds.Entry = codes "entry"
+row_kind_text row_kinds.Context = codes "context"
 
 -- a row of a report, as its line
 unfoldable pub row_text : ReportRow → List ℕ

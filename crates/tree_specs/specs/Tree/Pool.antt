@@ -12,23 +12,24 @@ use Rattle.tree_specs.specs.declared.object.Owner.{Owner}
 use Rattle.tree_specs.specs.declared.object.Owner.TheVariants.{Root, Of}
 use Rattle.tree_specs.specs.declared.row.Row.{Row}
 use Rattle.tree_specs.specs.declared.row.Mark.{Mark}
-use Rattle.tree_specs.specs.declared.row.Mark.TheVariants.{Quiet, Doomed, Dying}
+use Rattle.tree_specs.specs.declared.row.Mark.TheVariants.{Quiet, Busy, Doomed, Dying}
 use Rattle.tree_specs.specs.declared.kind.Kind.{Kind}
 use Rattle.tree_specs.specs.declared.kind.Kind.TheVariants.{Plain, Request, Queue, Entry}
-use Rattle.tree_specs.specs.Words.Objects.{same, same_owner}
-use Rattle.tree_specs.specs.Events.Pending.{scheduled, unscheduled, armed, disarmed}
-use Rattle.tree_specs.specs.Events.Rotation.{watched, unwatched, rewatched, turned_back, closes_with}
+use Rattle.tree_specs.specs.declared.coming.Coming.{Coming}
+use Rattle.tree_specs.specs.Words.Objects.{same, same_owner, first_context}
+use Rattle.tree_specs.specs.Events.Pending.{scheduled, unscheduled, armed, disarmed, soon_in, soon_without, times_in, times_without}
+use Rattle.tree_specs.specs.Events.Rotation.{watched, unwatched, rewatched, turned_back, closes_with, ring_in, ring_without}
 use Rattle.tree_specs.specs.Events.Descriptors.{Descriptors, listener_alone, opened, closed, shut}
 use Rattle.tree_specs.specs.Events.Handlers.{Handlers, with_handler, without_handler}
-use Rattle.tree_specs.specs.Events.Requests.{Notes, no_notes, new_note, with_note, without_note, renoted, in_state}
+use Rattle.tree_specs.specs.Events.Requests.{Notes, no_notes, new_note, with_note, without_note, renoted, in_state, not_deferring}
 use Rattle.tree_specs.specs.Events.Queues.{Queues, Head, no_queues, with_queue, run_as, without_queue, new_entry, entry_of, with_entry, without_entry, next_of, triggered}
-use Rattle.tree_specs.specs.Tree.Targets.{target_of, is_target, is_reference, newest, newest_ref}
+use Rattle.tree_specs.specs.Tree.Targets.{target_of, is_target, is_reference, newest, newest_ref, is_context, is_usable_mark}
 
 pub record Pool : Type 0 where
   pub rows : List Row
   pub next : ℕ
-  -- objects that come soon, first in first out
-  pub soon : List Obj
+  -- objects that come soon, each in its context, first in first out
+  pub soon : List Coming
   -- objects whose time comes, the earliest first
   pub times : List Due
   -- events on descriptors, in the order in which they are looked at
@@ -41,10 +42,12 @@ pub record Pool : Type 0 where
   pub requests : Notes
   -- what is kept of queues, and of the entries in them
   pub queues : Queues
+  -- the context whose turn is under way, where it is an object
+  pub turning : Option Obj
 
 -- objects of which none waits for its turn
 abbrev pub of_rows : List Row → ℕ → Pool
-of_rows rows next = record { rows = rows; next = next; soon = []; times = []; ring = []; descriptors = listener_alone; handlers = []; requests = no_notes; queues = no_queues }
+of_rows rows next = record { rows = rows; next = next; soon = []; times = []; ring = []; descriptors = listener_alone; handlers = []; requests = no_notes; queues = no_queues; turning = None }
 
 abbrev pub empty : ℕ → Pool
 empty first = of_rows [] first
@@ -70,6 +73,16 @@ is_object_row o = passes (λ r. not (is_reference r.kind)) o
 
 abbrev pub is_object : List Row → Obj → Bool
 is_object rs x = is_object_row (row_of rs x)
+
+abbrev pub is_context_row : Option Row → Bool
+is_context_row o = passes (λ r. is_context r.kind) o
+
+abbrev pub is_usable_row : Option Row → Bool
+is_usable_row o = passes (λ r. is_usable_mark r.mark) o
+
+-- the first context, or one that stays: something may come in it
+abbrev pub is_usable : List Row → Obj → Bool
+is_usable rs c = same c first_context || (is_context_row (row_of rs c) && is_usable_row (row_of rs c))
 
 -- the root, or an object; a reference owns nothing
 abbrev pub is_owner : List Row → Owner → Bool
@@ -183,23 +196,28 @@ take_number p = record p { next = p.next + 1 }
 abbrev pub left_row : Row → Row
 left_row r = record r { owner = None; mark = Dying (unwrap_or r.owner Root) }
 
+-- a queue comes in the context of the entry whose trigger it waits for, and in none where this isn't usable
+abbrev pub put_soon : List Row → Obj → Option Head → List Coming → List Coming
+put_soon rs q None soon = soon
+put_soon rs q (Some h) soon = if is_usable rs h.entry.trigger.context then scheduled soon q h.entry.trigger.context else unscheduled soon q
+
 -- a queue that runs comes soon, where its first entry waits for its trigger
-abbrev pub looked_at : Queues → Obj → List Obj → List Obj
-looked_at qs q soon = if is_some (next_of qs q) then scheduled soon q else soon
+abbrev pub looked_at : List Row → Queues → Obj → List Coming → List Coming
+looked_at rs qs q soon = put_soon rs q (next_of qs q) soon
 
 -- so it is with the queue that an entry has left
-abbrev pub looked_after : Queues → Option QueueEntry → List Obj → List Obj
-looked_after qs None soon = soon
-looked_after qs (Some e) soon = looked_at qs e.queue soon
+abbrev pub looked_after : List Row → Queues → Option QueueEntry → List Coming → List Coming
+looked_after rs qs None soon = soon
+looked_after rs qs (Some e) soon = looked_at rs qs e.queue soon
 
 -- An object's row is changed, and it waits for nothing any more. A descriptor that is to be closed with it is closed, and an
--- entry leaves its queue.
+-- entry leaves its queue. Nothing comes in a context any more, and what it watched is lost.
 abbrev pub let_go : Pool → Obj → (Row → Row) → Pool
 let_go p x change = record p {
   rows = changed change p.rows x;
-  soon = looked_after (without_entry p.queues x) (entry_of p.queues x) (unscheduled p.soon x);
-  times = disarmed p.times x;
-  ring = unwatched p.ring x;
+  soon = soon_without (looked_after p.rows (without_entry p.queues x) (entry_of p.queues x) (unscheduled p.soon x)) x;
+  times = times_without (disarmed p.times x) x;
+  ring = ring_without (unwatched p.ring x) x;
   descriptors = shut p.descriptors (closes_with p.ring x);
   queues = without_entry p.queues x;
 }
@@ -269,9 +287,9 @@ set_limit p x limit = edited p x (limited_row limit)
 abbrev pub set_handler : Pool → Obj → Handler → Pool
 set_handler p x handler = record p { handlers = with_handler p.handlers x handler }
 
--- an object is to come soon
-abbrev pub schedule : Pool → Obj → Pool
-schedule p x = record p { soon = scheduled p.soon x }
+-- an object is to come soon, in a context
+abbrev pub schedule : Pool → Obj → Obj → Pool
+schedule p x c = record p { soon = scheduled p.soon x c }
 
 abbrev pub unschedule : Pool → Obj → Pool
 unschedule p x = record p { soon = unscheduled p.soon x }
@@ -280,14 +298,38 @@ abbrev pub disarm : Pool → Obj → Pool
 disarm p x = record p { times = disarmed p.times x }
 
 -- an object is to come at a time; at equal times the smaller number comes first
-abbrev pub arm : Pool → Obj → ℕ → ℕ → Pool
-arm p x time number = record p { times = armed p.times x time number }
+abbrev pub arm : Pool → Obj → ℕ → ℕ → Obj → Pool
+arm p x time number c = record p { times = armed p.times x time number c }
+
+-- ---- contexts
+
+-- the context whose turn is under way
+abbrev pub here : Pool → Obj
+here p = unwrap_or p.turning first_context
+
+-- what comes soon in it, its times, and its events
+abbrev pub soon_here : Pool → List Coming
+soon_here p = soon_in p.soon (here p)
+
+abbrev pub times_here : Pool → List Due
+times_here p = times_in p.times (here p)
+
+abbrev pub ring_here : Pool → List Watch
+ring_here p = ring_in p.ring (here p)
+
+-- a turn of a context begins
+abbrev pub enter : Pool → Obj → Pool
+enter p c = if same c first_context then p else set_mark (record p { turning = Some c }) c Busy
+
+-- it is over
+abbrev pub exit : Pool → Obj → Pool
+exit p c = set_mark (record p { turning = None }) c Quiet
 
 -- ---- descriptors
 
 -- an event watches a descriptor from now on, for these flags
-abbrev pub watch : Pool → Obj → ℕ → ℕ → Pool
-watch p x fd flags = record p { ring = watched p.ring x fd flags }
+abbrev pub watch : Pool → Obj → ℕ → ℕ → Obj → Pool
+watch p x fd flags c = record p { ring = watched p.ring x fd flags c }
 
 -- how an event watches is changed
 abbrev pub rewatch : Pool → Obj → (Watch → Watch) → Pool
@@ -325,6 +367,11 @@ finish p x state = renote (disarm p x) x (in_state state)
 abbrev pub receive : Pool → Obj → Pool
 receive p x = finish (unschedule p x) x Received
 
+-- A request whose callback is deferred comes soon, once. Where the context that was kept for this isn't usable, it stays
+-- where it is.
+abbrev pub schedule_deferred : Pool → Obj → Obj → Pool
+schedule_deferred p x c = if is_usable p.rows c then schedule (renote p x not_deferring) x c else renote p x not_deferring
+
 -- ---- queues
 
 -- a queue runs from now on, or it doesn't
@@ -333,7 +380,7 @@ run_queue p q running = record p { queues = run_as p.queues q running }
 
 -- a queue comes soon, where it runs and its first entry waits for its trigger
 abbrev pub look_at : Pool → Obj → Pool
-look_at p q = record p { soon = looked_at p.queues q p.soon }
+look_at p q = record p { soon = looked_at p.rows p.queues q p.soon }
 
 -- a new queue below an owner, which runs
 abbrev pub add_queue : Pool → Owner → List ℕ → Pool

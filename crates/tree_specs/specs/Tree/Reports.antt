@@ -4,7 +4,7 @@ use Rattle.tree_specs.specs.declared.object.Obj.{Obj}
 use Rattle.tree_specs.specs.declared.object.Owner.{Owner}
 use Rattle.tree_specs.specs.declared.object.Owner.TheVariants.{Root, Of}
 use Rattle.tree_specs.specs.declared.kind.Kind.{Kind}
-use Rattle.tree_specs.specs.declared.kind.Kind.TheVariants.{Plain, Reference, Timer, Immediate, Descriptor, Request, Queue, Entry}
+use Rattle.tree_specs.specs.declared.kind.Kind.TheVariants.{Plain, Reference, Timer, Immediate, Descriptor, Request, Queue, Entry, Context}
 use Rattle.tree_specs.specs.declared.report.RowKind.{RowKind}
 use Rattle.tree_specs.specs.declared.report.RowKind.TheVariants as row_kinds
 use Rattle.tree_specs.specs.declared.report.ReportRow.{ReportRow}
@@ -22,6 +22,7 @@ row_kind Descriptor = row_kinds.Fd
 row_kind Request = row_kinds.Request
 row_kind Queue = row_kinds.Queue
 row_kind Entry = row_kinds.Entry
+row_kind Context = row_kinds.Context
 
 abbrev pub target_number : Option Obj → ℕ
 target_number None = 0

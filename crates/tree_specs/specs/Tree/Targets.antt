@@ -1,9 +1,11 @@
--- References: what they refer to.
-use Rattle.std.specs.Prelude.{Bool, false, nat_lt, List, [], ◌∷◌, Option, Some, None, is_some, if◌then◌else◌}
+-- What is said of kinds and marks alone: references and what they refer to, and contexts.
+use Rattle.std.specs.Prelude.{Bool, true, false, nat_lt, List, [], ◌∷◌, Option, Some, None, is_some, if◌then◌else◌}
 use Rattle.tree_specs.specs.declared.object.Obj.{Obj}
 use Rattle.tree_specs.specs.declared.kind.Kind.{Kind}
-use Rattle.tree_specs.specs.declared.kind.Kind.TheVariants.{Reference}
+use Rattle.tree_specs.specs.declared.kind.Kind.TheVariants.{Reference, Context}
 use Rattle.tree_specs.specs.declared.row.Row.{Row}
+use Rattle.tree_specs.specs.declared.row.Mark.{Mark}
+use Rattle.tree_specs.specs.declared.row.Mark.TheVariants.{Quiet, Busy}
 use Rattle.tree_specs.specs.Words.Objects.{same}
 
 -- what a reference refers to
@@ -31,3 +33,15 @@ newest q (r ∷ rs) = if q r then newer r.serial (newest q rs) else newest q rs
 -- the newest reference to an object
 abbrev pub newest_ref : List Row → Obj → Option Obj
 newest_ref rs x = newest (λ r. is_target (target_of r.kind) x) rs
+
+-- ---- contexts
+
+abbrev pub is_context : Kind → Bool
+is_context Context = true
+is_context k = false
+
+-- nothing goes on with it, or its turn is under way
+abbrev pub is_usable_mark : Mark → Bool
+is_usable_mark Quiet = true
+is_usable_mark Busy = true
+is_usable_mark m = false

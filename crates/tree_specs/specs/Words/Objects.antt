@@ -1,5 +1,5 @@
 -- Objects and owners, by their numbers.
-use Rattle.std.specs.Prelude.{ℕ, zero, suc, Bool, true, false, nat_eq}
+use Rattle.std.specs.Prelude.{ℕ, zero, suc, Bool, true, false, nat_eq, Option, Some, None}
 use Rattle.tree_specs.specs.declared.object.Obj.{Obj}
 use Rattle.tree_specs.specs.declared.object.Owner.{Owner}
 use Rattle.tree_specs.specs.declared.object.Owner.TheVariants.{Root, Of}
@@ -12,6 +12,14 @@ same_owner Root Root = true
 same_owner Root (Of y) = false
 same_owner (Of x) Root = false
 same_owner (Of x) (Of y) = same x y
+
+-- the first context, which is no object
+abbrev pub first_context : Obj
+first_context = record { 0 = 0 }
+
+abbrev pub is_same : Option Obj → Obj → Bool
+is_same None y = false
+is_same (Some x) y = same x y
 
 -- 0 is the root
 abbrev pub owner_number : Owner → ℕ

@@ -1,9 +1,11 @@
 -- Inputs whose numbers have the ranges of their fields, and whose names are no longer than a version of the schedules has them.
-use Rattle.std.specs.Prelude.{ℕ, ◌^◌, Bool, true, ◌&&◌, nat_lt, nat_le, List, [], ◌∷◌}
+use Rattle.std.specs.Prelude.{ℕ, ◌^◌, Bool, true, false, ◌&&◌, nat_lt, nat_le, List, [], ◌∷◌}
 use Rattle.tree_specs.specs.declared.bounds.TheConstants.{TIME_LIMIT, OCTETS_LIMIT}
 use Rattle.tree_specs.specs.declared.object.Owner.{Owner}
 use Rattle.tree_specs.specs.declared.object.Owner.TheVariants.{Root, Of}
+use Rattle.tree_specs.specs.declared.object.Obj.{Obj}
 use Rattle.tree_specs.specs.declared.call.Call.{Call}
+use Rattle.tree_specs.specs.declared.call.Call.TheVariants.{Context}
 use Rattle.tree_specs.specs.declared.question.Act.{Act}
 use Rattle.tree_specs.specs.declared.question.Act.TheVariants as acts
 use Rattle.tree_specs.specs.declared.question.Input.{Input}
@@ -13,6 +15,7 @@ use Rattle.tree_specs.specs.declared.schedule.Version.TheVariants.{One, Two}
 use Rattle.tree_specs.specs.Words.Names.{is_name_in}
 use Rattle.tree_specs.specs.Words.Octets.{is_octets}
 use Rattle.tree_specs.specs.Words.Wants.{is_wants}
+use Rattle.tree_specs.specs.Words.Objects.{same, first_context}
 use Rattle.tree_specs.specs.Calls.Spelling.{Numeral, Field, spelling}
 use Rattle.tree_specs.specs.Calls.Spelling.Numeral.{Number, Number32, Positive32, Time, FdFlags, Length}
 use Rattle.tree_specs.specs.Calls.Spelling.Field.{AnOwner, AnObject, ANumeral, AName, SomeBytes, TheContext}
@@ -53,22 +56,32 @@ abbrev pub is_sound_owner : Owner → Bool
 is_sound_owner Root = true
 is_sound_owner (Of x) = nat_lt 0 x.0 && is_number x.0
 
+-- a context has any number; version 1 has the first one alone
+abbrev pub is_context_in : Version → Obj → Bool
+is_context_in One c = same c first_context
+is_context_in Two c = is_number c.0
+
 abbrev pub is_sound_field : Version → Field → Bool
 is_sound_field v (AnOwner o) = is_sound_owner o
 is_sound_field v (AnObject x) = is_number x.0
 is_sound_field v (ANumeral kind n) = is_in kind n
 is_sound_field v (AName name) = is_name_in v name
 is_sound_field v (SomeBytes bytes) = is_octets bytes
-is_sound_field v TheContext = true
+is_sound_field v (TheContext c) = is_context_in v c
 
 abbrev pub all_sound : Version → List Field → Bool
 all_sound v [] = true
 all_sound v (f ∷ []) = is_sound_field v f
 all_sound v (f ∷ g ∷ fs) = is_sound_field v f && all_sound v (g ∷ fs)
 
--- the context of a call is always sound, so it makes no difference whether it is said
+-- version 1 has no contexts but the first one, and no call that makes one
+abbrev pub is_call_in : Version → Call → Bool
+is_call_in One (Context owner) = false
+is_call_in v c = true
+
+-- Version 2 says all that is in a call.
 abbrev pub is_sound_call_in : Version → Call → Bool
-is_sound_call_in v c = all_sound v (spelling One c).fields
+is_sound_call_in v c = is_call_in v c && all_sound v (spelling Two c).fields
 
 abbrev pub is_sound_act_in : Version → Act → Bool
 is_sound_act_in v (acts.Do call) = is_sound_call_in v call

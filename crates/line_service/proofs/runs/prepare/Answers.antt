@@ -1,4 +1,4 @@
-use Rattle.std.proofs.Common.{◌≡◌, Err, refl, sym, ◌∙◌, ap}
+use Rattle.std.proofs.Common.{Err, refl, sym, ◌∙◌, ap}
 use Rattle.std.proofs.lemmas.Result.{err_from_is_err_and}
 use Rattle.host_core.specs.declared.fault.OfferFault.{OfferFault}
 use Rattle.line_service.proofs.Offering.{fault-passed, fault-was, refused-taken}

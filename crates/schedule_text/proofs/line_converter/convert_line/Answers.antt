@@ -10,5 +10,5 @@ returns c = record {
   written =
       c.in_ok-append_line.ensures.text
       ∙ ap (λ (b : Bool). c.args.out.now.items ++ (c.args.line.now ++ cond b (codes " 0") [] ++ newline)) c.gains_context.ensures
-      ∙ ap (λ (l : List ℕ). c.args.out.now.items ++ l) (is_turned c.args.version c.args.line.now c.in_ok-input.input c.in_ok-input.ensures.spelled);
+      ∙ ap (λ (l : List ℕ). c.args.out.now.items ++ l) (is_turned c.args.version c.args.line.now c.in_ok-input.input c.in_ok-input.ensures.sound c.in_ok-input.ensures.spelled);
 }

@@ -8,6 +8,7 @@ use tree_specs::{Call, Obj, Octets, Owner};
 pub(super) const CALLS: &str = "\
 fd 0 0 0 1 0 0
 fd 18446744073709551615 4294967295 3 4294967295 18446744073709551615 0
+fd 0 5 1 16 0 7
 flags 9 0
 flags 9 3
 getflags 9
@@ -23,7 +24,7 @@ write 5 00
 pub(super) const NO_CALLS: &str = "\
 fd 0 5 1 16
 fd 0 5 1 16 0
-fd 0 5 1 16 0 1
+fd 0 5 1 16 0 01
 fd 0 5 1 16 0 0 0
 fd 0 5 4 16 0 0
 fd 0 5 1 0 0 0
@@ -113,6 +114,7 @@ fn writes_calls(rt: HostRuntime) -> Result<(), Fail> {
         flags: 1,
         routine: 16,
         user: 42,
+        context: Obj(8),
     };
     let bytes = octets(rt.alloc(), b"1 9\n")?;
     let flags = Call::Flags {
@@ -120,7 +122,7 @@ fn writes_calls(rt: HostRuntime) -> Result<(), Fail> {
         flags: 2,
     };
     let cases = [
-        (fd, b"fd 7 5 1 16 42 0".as_slice()),
+        (fd, b"fd 7 5 1 16 42 8".as_slice()),
         (flags, b"flags 9 2".as_slice()),
         (Call::Getflags { x: Obj(9) }, b"getflags 9".as_slice()),
         (Call::Autoclose { x: Obj(9) }, b"autoclose 9".as_slice()),

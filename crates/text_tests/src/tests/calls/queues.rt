@@ -12,6 +12,7 @@ queue 0 ~
 queue 18446744073709551615 a-b
 enqueue 9 3 1 0 0
 enqueue 18446744073709551615 3 4294967295 18446744073709551615 0
+enqueue 9 3 16 42 18446744073709551615
 start 9
 stop 9
 length 9
@@ -27,7 +28,7 @@ queue 07 a-b
 enqueue 9 3 16
 enqueue 9 3 0 42 0
 enqueue 9 3 16 42
-enqueue 9 3 16 42 1
+enqueue 9 3 16 42 01
 enqueue 9 3 16 42 0 0
 enqueue 9 3 4294967296 42 0
 enqueue 9 03 16 42 0
@@ -57,10 +58,11 @@ fn writes_each_call(rt: HostRuntime) -> Result<(), Fail> {
         x: Obj(3),
         routine: 16,
         user: 42,
+        context: Obj(7),
     };
     let cases = [
         (make, b"queue 7 a-b".as_slice()),
-        (enqueue, b"enqueue 9 3 16 42 0".as_slice()),
+        (enqueue, b"enqueue 9 3 16 42 7".as_slice()),
         (Call::Start { queue: QUEUE }, b"start 9".as_slice()),
         (Call::Stop { queue: QUEUE }, b"stop 9".as_slice()),
         (Call::Length { queue: QUEUE }, b"length 9".as_slice()),

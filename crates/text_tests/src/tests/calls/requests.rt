@@ -13,12 +13,14 @@ req 18446744073709551615 18446744073709551615 a-b
 callback 9 0 0
 callback 9 4294967295 18446744073709551615
 defer 9 0
+defer 9 18446744073709551615
 cleanup 9 0
 cleanup 9 4294967295
 setcancel 9 0
 setcancel 9 4294967295
 cancel 9
 post 9 0
+post 9 7
 done 9
 error 9 0
 error 9 18446744073709551615
@@ -27,6 +29,7 @@ iserror 9
 progress 9
 endtime 9 0 0
 endtime 9 4611686018427387904 0
+endtime 9 5 7
 received 18446744073709551615
 ";
 
@@ -44,8 +47,8 @@ callback 9 16 18446744073709551616
 call_back 9 16 0
 defer
 defer 9
-defer 9 1
 defer 9 00
+defer 9 18446744073709551616
 defer 9 0 0
 cleanup 9
 cleanup 9 017
@@ -69,7 +72,7 @@ Iserror 9
 progress 09
 endtime 9
 endtime 9 5
-endtime 9 5 7
+endtime 9 5 07
 endtime 9 4611686018427387905 0
 endtime 4611686018427387904 0
 received
@@ -94,23 +97,35 @@ fn writes_calls_that_make_and_prepare(rt: HostRuntime) -> Result<(), Fail> {
     };
     let cleanup = Call::Cleanup { x: X, routine: 17 };
     let cancel = Call::Setcancel { x: X, routine: 18 };
-    let endtime = Call::Endtime { x: X, time: 30 };
+    let defer = Call::Defer {
+        x: X,
+        context: Obj(7),
+    };
+    let endtime = Call::Endtime {
+        x: X,
+        time: 30,
+        context: Obj(8),
+    };
     let cases = [
         (req, b"req 7 10 a-b".as_slice()),
         (callback, b"callback 9 16 42".as_slice()),
-        (Call::Defer { x: X }, b"defer 9 0".as_slice()),
+        (defer, b"defer 9 7".as_slice()),
         (cleanup, b"cleanup 9 17".as_slice()),
         (cancel, b"setcancel 9 18".as_slice()),
-        (endtime, b"endtime 9 30 0".as_slice()),
+        (endtime, b"endtime 9 30 8".as_slice()),
     ];
     writes_each(&rt, rt.alloc(), &cases)
 }
 
 #[test]
 fn writes_calls_that_end_and_tell(rt: HostRuntime) -> Result<(), Fail> {
+    let post = Call::Post {
+        x: X,
+        context: Obj::first_context(),
+    };
     let cases = [
         (Call::Cancel { x: X }, b"cancel 9".as_slice()),
-        (Call::Post { x: X }, b"post 9 0".as_slice()),
+        (post, b"post 9 0".as_slice()),
         (Call::Done { x: X }, b"done 9".as_slice()),
         (Call::Error { x: X, error: 5 }, b"error 9 5".as_slice()),
         (Call::Oom { x: X }, b"oom 9".as_slice()),

@@ -49,6 +49,8 @@ ret 0
 ret 4294967295
 call now
 act turn 0
+act turn 7
+call context 0
 clock 0
 clock 4611686018427387904
 ready
@@ -110,7 +112,9 @@ fn a_line_gains_the_context_that_it_lacks(rt: HostRuntime) -> Result<(), Fail> {
         ("call free 9", Version::One, "call free 9\n"),
         ("ready 3:1", Version::One, "ready 3:1\n"),
         ("call turn 0", Version::Two, "call turn 0\n"),
+        ("act turn 7", Version::Two, "act turn 7\n"),
         ("call turn 0", Version::One, ""),
+        ("call context 0", Version::One, ""),
         ("call turn", Version::Two, ""),
         ("call fre", Version::One, ""),
     ];
@@ -236,7 +240,7 @@ call error 1
 done 1
 act endtime 1 4611686018427387905 0
 call turn
-call turn 1
+call turn 01
 act req 7 10
 act callback 1 4294967296 0
 act cleanup 1 17 0

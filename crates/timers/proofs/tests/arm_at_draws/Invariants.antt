@@ -1,10 +1,9 @@
-use Rattle.std.proofs.Common.{◌+◌, ◌<◌, ◌≤◌}
+use Rattle.std.proofs.Common.{◌<◌}
 use Rattle.timers.specs.Timetable.{AreByObject}
 use Rattle.timers.proofs.tests.arm_at_draws.Given as goal
 
 abbrev pub invariant-loop-before : goal.invariant-loop-before
 invariant-loop-before l = record {
   state : l.drawn < 2147483648;
-  room : l.fn.times.spare ≤ l.times.spare + l.before;
   numbers : AreByObject l.times.dues;
 }

@@ -1,12 +1,12 @@
 use Rattle.std.proofs.Common.{refl}
 use Rattle.hex.specs.Hex.{encode_with, decode_pairs}
 use Rattle.tree_specs.specs.Calls.Refusals.{fits}
-use Rattle.tree_specs.specs.Texts.Grammar.{number_of, owner_of, object_of, name_of, context_of, numeral_of, octets_of, call_of_words, call_of, input_of}
+use Rattle.tree_specs.specs.Texts.Grammar.{number_of, owner_of, object_of, name_of, numeral_of, octets_of, call_of_words, call_of, input_of}
 use Rattle.tree_specs.specs.Texts.Lines.{lines_of_parts, lines}
 use Rattle.tree_specs.specs.Texts.Runners.{line_input, judged_from, judged_lines}
 use Rattle.tree_specs.specs.Texts.Schedule.{header_of, open_question}
 use Rattle.tree_specs.proofs.examples.the_first_refused_line_is_found.Goals as goal
 
 pub returns : goal.returns
-unfolding number_of owner_of object_of name_of context_of numeral_of octets_of call_of_words call_of input_of lines_of_parts lines line_input judged_from judged_lines header_of open_question fits encode_with decode_pairs
+unfolding number_of owner_of object_of name_of numeral_of octets_of call_of_words call_of input_of lines_of_parts lines line_input judged_from judged_lines header_of open_question fits encode_with decode_pairs
 returns c = refl

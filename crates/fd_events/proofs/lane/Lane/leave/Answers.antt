@@ -1,16 +1,14 @@
-use Rattle.std.proofs.Common.{sym, ◌∙◌}
-use Rattle.linked_lanes.specs.Lane.{without}
-use Rattle.linked_lanes.specs.Chain.{last_left}
-use Rattle.linked_lanes.proofs.Lanes.{Distinct-without}
-use Rattle.linked_lanes.proofs.Chains.{left-chain}
-use Rattle.linked_lanes.proofs.Ends.{last-without}
-use Rattle.fd_events.proofs.Stamps.{fall-same, fall-without}
+use Rattle.std.proofs.Common.{ap, ◌∙◌, subst}
+use Rattle.std.specs.Option.{option_map}
+use Rattle.fd_events.specs.Linked.{number_of, CanLeave, OnContext}
+use Rattle.fd_events.proofs.Lanes.{lane-out}
 use Rattle.fd_events.proofs.lane.Lane.leave.Goals as goal
 
-pub returns-clause-lane : goal.returns-clause-lane
-returns-clause-lane c = λ xs x k m s. record {
-  distinct = Distinct-without xs x k.distinct;
-  chain = left-chain _ _ _ c.args.sides c.set_link.ensures.sides c.set_link-2.ensures.sides _ _ xs x k.distinct m s c.head_after-self.ensures k.chain;
-  at_last = c.last_after-self.ensures ∙ (λ i. last_left (k.at_last i) (s i)) ∙ sym (last-without xs x k.distinct m);
-  stamps = λ b. fall-same _ _ _ (without xs x) (λ q _. c.set_link-2.ensures.stamps q ∙ c.set_link.ensures.stamps q) (fall-without _ _ xs x (k.stamps b));
-}
+pub returns-in-None-clause-lane : goal.returns-in-None-clause-lane
+returns-in-None-clause-lane c = λ K F x k out found. lane-out c.args.self.now K F x (out ∙ ap (option_map number_of) c.in-None.is) k
+
+pub leave_lane-requires : goal.leave_lane-requires
+leave_lane-requires c = subst (OnContext (CanLeave c.args.self.now.ends.lanes c.args.node.sides)) c.in-Some.is c.requires
+
+pub returns-in-Some-clause-lane : goal.returns-in-Some-clause-lane
+returns-in-Some-clause-lane c = λ K F x k in_lane found. c.leave_lane.ensures.lane K F x k (in_lane ∙ ap (option_map number_of) c.in-Some.is) found

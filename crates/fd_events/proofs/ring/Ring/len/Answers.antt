@@ -1,12 +1,15 @@
-use Rattle.std.proofs.Common.{◌∙◌, ap, subst, length}
-use Rattle.fd_events.specs.Rotation.{Rotation, AreEventsOnce}
-use Rattle.fd_events.proofs.Keeping.{linked-keeps, length-kept, once-kept}
+use Rattle.std.proofs.Common.{length, sym, ap, ◌∙◌}
+use Rattle.tree_specs.specs.Events.Rotation.{ring_in}
+use Rattle.fd_events.specs.Rotation.{Rotation}
+use Rattle.fd_events.proofs.Places.{length-none, length-some}
 use Rattle.fd_events.proofs.ring.Ring.len.Goals as goal
 
-pub returns-clause-count : goal.returns-clause-count
-returns-clause-count c =
-    c.len.ensures ∙ length-kept c.self.inside.lane _ _ _ (linked-keeps _ c.self.inside.holders.pairs c.self.invariant) ∙ ap (λ (r : Rotation). length r.watches) c.self.view_is
+pub returns-in-None : goal.returns-in-None
+returns-in-None c =
+    length-none c.self.inside.lane c.self.inside.holders.pairs _ _ c.self.invariant c.args.c (sym c.get.ensures ∙ c.in-None.is)
+    ∙ ap (λ (r : Rotation). length (ring_in r.watches c.args.c)) c.self.view_is
 
-pub returns-clause-events : goal.returns-clause-events
-returns-clause-events c =
-    subst (λ (r : Rotation). AreEventsOnce r.watches) c.self.view_is (once-kept c.self.inside.lane _ _ _ (linked-keeps _ c.self.inside.holders.pairs c.self.invariant))
+pub returns-in-Some : goal.returns-in-Some
+returns-in-Some c =
+    length-some c.self.inside.lane c.self.inside.holders.pairs _ _ c.self.invariant c.args.c c.in-Some.ends (sym c.get.ensures ∙ c.in-Some.is)
+    ∙ ap (λ (r : Rotation). length (ring_in r.watches c.args.c)) c.self.view_is

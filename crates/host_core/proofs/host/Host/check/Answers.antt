@@ -1,5 +1,4 @@
-use Rattle.tree_specs.specs.declared.question.Input.{Input}
-use Rattle.std.proofs.Common.{◌≡◌, List, [], ◌∷◌, true, refl, sym, ◌∙◌, ap, subst}
+use Rattle.std.proofs.Common.{◌≡◌, [], ◌∷◌, true, refl, sym, ◌∙◌, ap, subst}
 use Rattle.tree_specs.specs.Texts.Schedule.{misfit}
 use Rattle.tree_specs.specs.Machine.View.{View, strays_of}
 use Rattle.host_core.proofs.Offering.{unasked, question-view}

@@ -1,39 +1,34 @@
-use Rattle.std.proofs.Common.{◌≡◌, ℕ, ◌+◌, List, false, Some, cond, nat_eq, ◌∷◌, ◌++◌, [], length, refl, ap, ◌∙◌, arith}
+use Rattle.std.proofs.Common.{refl, sym, ap, ◌∙◌, arith}
 use Rattle.std.specs.FinMap as map
-use Rattle.pool_arena.specs.Arena.{get}
-use Rattle.pool_arena.proofs.Keeps.{get-with_entry}
-use Rattle.pool_arena.proofs.Steps.{len-new}
-use Rattle.linked_lanes.specs.Lane.{has}
+use Rattle.immediates.specs.declared.change.Change.TheVariants.{Joins}
+use Rattle.tree_specs.specs.Events.Pending.{is_scheduled}
 use Rattle.immediates.specs.Waiting.{Waiting}
-use Rattle.immediates.specs.Linked.{Keeps, lane_in, numbered}
-use Rattle.immediates.proofs.Order.{absent-in}
-use Rattle.immediates.proofs.Linking.{keeps-linked, objects-kept, none-there, join-keeps}
+use Rattle.immediates.proofs.Keeping.{fewer, vacant, longer, keeps-joined, keeps-noted}
 use Rattle.immediates.proofs.soon.Soon.join.Goals as goal
 
 pub add-requires-clause-vacant : goal.add-requires-clause-vacant
 add-requires-clause-vacant c =
-    none-there (get c.self.inside.sides) (get c.set_link.new.sides) _ _ _ c.self.invariant.keeps c.args.x
-    (absent-in _ c.args.x _ (ap (λ (v : Waiting). v.objects) c.self.view_is) c.requires.absent) c.set_link.ensures.sides
+    vacant c.self.inside.nodes.pairs c.self.inside.ends.lanes _ _ c.self.invariant c.args.x c.args.c c.unwrap-ends.result (sym c.get.ensures ∙ c.unwrap-ends.ensures)
+    (ap (λ (v : Waiting). is_scheduled v.coming c.args.x) c.self.view_is ∙ c.requires.absent)
+    c.set_link.new.nodes.pairs c.set_link.ensures.sides c.set_link.ensures.contexts c.set_link.ensures.len
 
-abbrev lane : goal.After-add → List ℕ
-lane c = c.args.x ∷ lane_in c.self.inside.sides.pairs c.self.inside.newest
-
-absent : (c : goal.After-add) → has (lane_in c.self.inside.sides.pairs c.self.inside.newest) c.args.x ≡ false
-absent c = absent-in _ c.args.x _ (ap (λ (v : Waiting). v.objects) c.self.view_is) c.requires.absent
-
-joined : (c : goal.After-add) → Keeps (get c.add.new.self) (Some c.args.x) c.or-self-inside.result (lane c)
-joined c =
-    join-keeps (get c.self.inside.sides) _ _ _ _ c.self.invariant.keeps c.args.x (Some c.args.x) _ (absent c) refl c.or-self-inside.ensures
-    (λ q. ap (λ m. map.get m q) c.add.ensures.pairs ∙ get-with_entry _ _ (Some _) q ∙ ap (cond (nat_eq c.args.x q) _) (c.set_link.ensures.sides q))
-
-count : (c : goal.After-add) → map.len c.add.new.self.pairs ≡ length (lane c)
-count c =
-    let all = c.self.invariant.count in
-    ap (λ m. map.len m) c.add.ensures.pairs ∙ len-new c.set_link.new.sides.pairs c.args.x _ (none-there (get c.self.inside.sides) (get c.set_link.new.sides) _ _ _ c.self.invariant.keeps c.args.x (absent c) c.set_link.ensures.sides)
-    ∙ ap (λ (n : ℕ). n + 1) c.set_link.ensures.len ∙ omega (arith, all)
+pub prove-unreachable-requires : goal.prove-unreachable-requires
+prove-unreachable-requires c =
+    let few = fewer c.self.inside.nodes.pairs c.self.inside.ends.lanes _ _ c.self.invariant c.args.c.0 c.unwrap-ends.result (sym c.get.ensures ∙ c.unwrap-ends.ensures) in
+    let more =
+    longer c.self.inside.nodes.pairs c.self.inside.ends.lanes _ _ c.self.invariant c.args.x c.args.c c.unwrap-ends.result (sym c.get.ensures ∙ c.unwrap-ends.ensures)
+    (ap (λ (v : Waiting). is_scheduled v.coming c.args.x) c.self.view_is ∙ c.requires.absent)
+    c.set_link.new.nodes.pairs c.set_link.ensures.sides c.set_link.ensures.contexts c.set_link.ensures.len
+    _ refl refl c.add.new.self.pairs c.add.ensures.pairs in
+    let all = c.len.ensures in
+    let under = c.if-prove.true in
+    omega (arith, few, more, all, under)
 
 pub invariant_of-self : goal.invariant_of-self
-invariant_of-self c = keeps-linked _ _ _ (lane c) (joined c) (count c)
-
-pub returns-clause-objects : goal.returns-clause-objects
-returns-clause-objects c = objects-kept _ _ _ (lane c) (joined c) (count c) ∙ ap (λ (v : Waiting). v.objects ++ numbered c.args.x ∷ []) c.self.view_is
+invariant_of-self c =
+    keeps-noted _ _ c.self.inside.changes.items c.and-self-inside.result.items (Joins (record { object = c.args.x; context = c.args.c })) c.and-self-inside.ensures
+    (keeps-joined c.self.inside.nodes.pairs c.self.inside.ends.lanes _ _ c.self.invariant c.args.x c.args.c c.unwrap-ends.result (sym c.get.ensures ∙ c.unwrap-ends.ensures)
+    (ap (λ (v : Waiting). is_scheduled v.coming c.args.x) c.self.view_is ∙ c.requires.absent)
+    c.set_link.new.nodes.pairs c.set_link.ensures.sides c.set_link.ensures.contexts c.set_link.ensures.len
+    _ refl refl c.add.new.self.pairs c.add.ensures.pairs
+    c.set.new.self.lanes (c.set.ensures.lanes ∙ ap (map.insert c.self.inside.ends.lanes c.args.c.0) c.joined.ensures))

@@ -1,67 +1,55 @@
-use Rattle.std.proofs.Common.{◌≡◌, ℕ, List, IsSome, is_some, length, Some, None, sym, ap, subst, ◌∙◌, arith}
+use Rattle.std.proofs.Common.{◌≡◌, is_some, false, sym, ap, subst, ◌∙◌}
 use Rattle.std.specs.FinMap as map
-use Rattle.tree_specs.specs.Events.Pending.{is_scheduled, unscheduled}
-use Rattle.pool_arena.specs.Arena.{get}
-use Rattle.pool_arena.proofs.Keeps.{get-with_entry, removed_none}
-use Rattle.pool_arena.proofs.Steps.{len-gone}
-use Rattle.linked_lanes.specs.Lane.{without}
-use Rattle.linked_lanes.proofs.Lanes.{length-without, without-absent}
+use Rattle.pool_arena.proofs.Keeps.{removed_none}
+use Rattle.linked_lanes.specs.Family.{IsWhole}
+use Rattle.immediates.specs.declared.change.Change.TheVariants.{Leaves}
+use Rattle.immediates.specs.Changes.{coming_of, contexts_of}
+use Rattle.tree_specs.specs.Events.Pending.{is_scheduled}
 use Rattle.immediates.specs.Waiting.{Waiting}
-use Rattle.immediates.specs.Linked.{Keeps, IsLinked, lane_in, objects_in, oldest_first}
-use Rattle.immediates.proofs.Order.{waits-in, without-in}
-use Rattle.immediates.proofs.Linking.{keeps-linked, objects-kept, leave-keeps}
+use Rattle.immediates.specs.Linked.{IsKept}
+use Rattle.immediates.proofs.Once.{nobody-gone}
+use Rattle.immediates.proofs.Keeping.{there, whole-left, keeps-left, keeps-noted}
 use Rattle.immediates.proofs.soon.Soon.remove.Goals as goal
 
 -- ---- one that doesn't wait
 
-same : (c : goal.In_default) → c.take.new.self.pairs ≡ c.self.inside.sides.pairs
-same c = c.take.ensures.pairs ∙ removed_none c.self.inside.sides.pairs c.args.x.0 (sym c.take.ensures.value ∙ c.in_default.is)
+same : (c : goal.In_default) → c.take.new.self.pairs ≡ c.self.inside.nodes.pairs
+same c = c.take.ensures.pairs ∙ removed_none c.self.inside.nodes.pairs c.args.x.0 (sym c.take.ensures.value ∙ c.in_default.is)
+
+absent : (c : goal.In_default) → is_scheduled c.args.self.now.coming c.args.x ≡ false
+absent c =
+    ap (λ (v : Waiting). is_scheduled v.coming c.args.x) (sym c.self.view_is)
+    ∙ sym (there _ _ _ _ c.self.invariant c.args.x) ∙ ap is_some (sym c.take.ensures.value ∙ c.in_default.is)
 
 pub invariant_of-self : goal.invariant_of-self
-invariant_of-self c = subst (λ m. IsLinked m c.self.inside.newest c.self.inside.oldest) (sym (same c)) c.self.invariant
+invariant_of-self c =
+    subst (λ m. IsKept m c.self.inside.ends.lanes (coming_of c.self.inside.changes.items) (contexts_of c.self.inside.changes.items)) (sym (same c)) c.self.invariant
 
 pub returns-in_default-clause-result : goal.returns-in_default-clause-result
-returns-in_default-clause-result c =
-    sym (ap is_some (sym c.take.ensures.value ∙ c.in_default.is)) ∙ c.self.invariant.keeps.held c.args.x.0
-    ∙ sym (waits-in (lane_in c.self.inside.sides.pairs c.self.inside.newest) c.args.x.0) ∙ ap (λ (v : Waiting). is_scheduled v.objects c.args.x) c.self.view_is
+returns-in_default-clause-result c = sym (absent c)
 
-pub returns-in_default-clause-objects : goal.returns-in_default-clause-objects
-returns-in_default-clause-objects c =
-    let lane = lane_in c.self.inside.sides.pairs c.self.inside.newest in
-    let absent = sym (c.self.invariant.keeps.held c.args.x.0) ∙ ap is_some (sym c.take.ensures.value ∙ c.in_default.is) in
-    ap (λ m. objects_in m c.self.inside.newest) (same c) ∙ sym (ap oldest_first (without-absent lane c.args.x.0 absent))
-    ∙ sym (without-in lane c.args.x.0 c.self.invariant.keeps.distinct) ∙ ap (λ (v : Waiting). unscheduled v.objects c.args.x) c.self.view_is
+pub returns-in_default-clause-coming : goal.returns-in_default-clause-coming
+returns-in_default-clause-coming c = ap (λ (v : Waiting). v.coming) c.self.view_is ∙ sym (nobody-gone c.args.self.now.coming c.args.x (absent c))
 
 -- ---- one that waits
 
-found : (c : goal.After-set_link-2) → get c.self.inside.sides c.args.x.0 ≡ Some c.in-Some.sides
-found c = sym c.take.ensures.value ∙ c.in-Some.is
-
-abbrev rest : goal.After-set_link-2 → List ℕ
-rest c = without (lane_in c.self.inside.sides.pairs c.self.inside.newest) c.args.x.0
-
-left : (c : goal.After-set_link-2) → Keeps (get c.set_link-2.new.sides) c.head_after-self-inside.result c.last_after-self-inside.result (rest c)
-left c =
-    leave-keeps (get c.self.inside.sides) _ _ _ _ c.self.invariant.keeps c.args.x.0 c.in-Some.sides (found c) (get c.take.new.self) (get c.set_link.new.sides) _ _
-    c.head_after-self-inside.ensures c.last_after-self-inside.ensures
-    (λ q. ap (λ m. map.get m q) c.take.ensures.pairs ∙ get-with_entry _ _ None q) c.set_link.ensures.sides c.set_link-2.ensures.sides
-
-count : (c : goal.After-set_link-2) → map.len c.set_link-2.new.sides.pairs ≡ length (rest c)
-count c =
-    let there : IsSome (get c.self.inside.sides c.args.x.0) = ap is_some (found c) in
-    let fewer = length-without (lane_in c.self.inside.sides.pairs c.self.inside.newest) c.args.x.0 (sym (c.self.invariant.keeps.held c.args.x.0) ∙ there) in
-    let all = c.self.invariant.count in
-    c.set_link-2.ensures.len ∙ c.set_link.ensures.len ∙ ap (λ m. map.len m) c.take.ensures.pairs ∙ len-gone c.self.inside.sides.pairs c.args.x.0 there ∙ omega (arith, fewer, all)
+pub set-requires-clause-whole : goal.set-requires-clause-whole
+set-requires-clause-whole c =
+    subst IsWhole (sym c.left.ensures)
+    (whole-left c.self.inside.nodes.pairs c.self.inside.ends.lanes _ _ c.self.invariant c.args.x c.in-Some.node (sym c.take.ensures.value ∙ c.in-Some.is)
+    c.unwrap-ends.result (sym c.get.ensures ∙ c.unwrap-ends.ensures))
 
 pub invariant_of-self-2 : goal.invariant_of-self-2
-invariant_of-self-2 c = keeps-linked _ _ _ (rest c) (left c) (count c)
+invariant_of-self-2 c =
+    keeps-noted _ _ c.self.inside.changes.items c.and-self-inside.result.items (Leaves c.args.x) c.and-self-inside.ensures
+    (keeps-left c.self.inside.nodes.pairs c.self.inside.ends.lanes _ _ c.self.invariant c.args.x c.in-Some.node (sym c.take.ensures.value ∙ c.in-Some.is)
+    c.unwrap-ends.result (sym c.get.ensures ∙ c.unwrap-ends.ensures)
+    c.take.new.self.pairs c.set_link.new.nodes.pairs c.set_link-2.new.nodes.pairs c.set.new.self.lanes c.take.ensures.pairs
+    c.set_link.ensures.sides c.set_link.ensures.contexts c.set_link.ensures.len
+    c.set_link-2.ensures.sides c.set_link-2.ensures.contexts c.set_link-2.ensures.len
+    (c.set.ensures.lanes ∙ ap (map.insert c.self.inside.ends.lanes c.in-Some.node.context) c.left.ensures))
 
 pub returns-clause-result : goal.returns-clause-result
 returns-clause-result c =
-    sym (ap is_some (found c)) ∙ c.self.invariant.keeps.held c.args.x.0
-    ∙ sym (waits-in (lane_in c.self.inside.sides.pairs c.self.inside.newest) c.args.x.0) ∙ ap (λ (v : Waiting). is_scheduled v.objects c.args.x) c.self.view_is
-
-pub returns-clause-objects : goal.returns-clause-objects
-returns-clause-objects c =
-    objects-kept _ _ _ (rest c) (left c) (count c)
-    ∙ sym (without-in (lane_in c.self.inside.sides.pairs c.self.inside.newest) c.args.x.0 c.self.invariant.keeps.distinct) ∙ ap (λ (v : Waiting). unscheduled v.objects c.args.x) c.self.view_is
+    sym (ap is_some (sym c.take.ensures.value ∙ c.in-Some.is)) ∙ there _ _ _ _ c.self.invariant c.args.x
+    ∙ ap (λ (v : Waiting). is_scheduled v.coming c.args.x) c.self.view_is

@@ -1,7 +1,6 @@
-use Rattle.std.proofs.Common.{◌≡◌, ◌↔◌, ◌∷◌, [], ℕ, Result, Ok, Err, Some, sym, ◌∙◌, ap, subst}
+use Rattle.std.proofs.Common.{◌≡◌, Ok, Err, sym, ◌∙◌, ap}
 use Rattle.std.proofs.lemmas.Result.{err_from_is_err_and}
 use Rattle.host_core.specs.declared.fault.OfferFault.{OfferFault}
-use Rattle.line_service.specs.Steps.{StraysAt}
 use Rattle.line_service.specs.Runs.{changed}
 use Rattle.line_service.proofs.Offering.{fault-passed, fault-was, refused-not-asked, refused-taken, station-not-asked, station-strays, station-takes, station-taken}
 use Rattle.line_service.proofs.station.Station.offer.Goals as goal

@@ -19,9 +19,9 @@ pub invariant_of-self : goal.invariant_of-self
 invariant_of-self c =
     let queue = c.add_row-queue.ensures in
     let before = c.self.inside.events.upcoming in
-    event-added c.self.inside c.add_row-queue.new.tree c.add_row-queue.new.sums c.add_queue.new.self c.add_row-queue.result Queue c.args.owner c.args.name queue.spare (ap (λ (o : Objects). o.ready) c.self.view_is ∙ c.requires.ready) refl
+    event-added c.self.inside c.add_row-queue.new.tree c.add_row-queue.new.sums c.add_queue.new.self c.add_row-queue.result Queue c.args.owner c.args.name queue.spare (ap (λ (o : Objects). o.ready) c.self.view_is ∙ c.requires.ready) refl refl
     queue.serial queue.fresh queue.rows queue.works queue.limits
     (λ le lt. let later = given-later _ c.add_row-queue.new.tree.next before le c.self.invariant.given in
-    rw c.add_queue.ensures
+    rw c.add_queue.ensures.upcoming
     (record { times = later.times; ring = later.ring; requests = later.requests; queues = kept-put _ before.queues.running c.add_row-queue.result.0 true lt later.queues; entries = later.entries }))
-    c.self.invariant
+    c.add_queue.ensures.contexts c.self.invariant

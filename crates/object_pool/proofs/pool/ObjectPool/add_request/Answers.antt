@@ -38,4 +38,4 @@ invariant_of-self c =
     let first = c.add_row-request.ensures in
     let second = c.add_row-child.ensures in
     request-added c.self.inside c.add_row-request.new.tree c.add_row-child.new.tree c.add_row-child.new.sums c.create.new.self c.add_row-request.result c.add_row-child.result c.args.owner c.args.size c.fixed.result c.args.name
-    (second.spare ∙ first.spare) (ap (λ (o : Objects). o.ready) c.self.view_is ∙ c.requires.ready) first.serial second.serial first.fresh second.fresh first.rows second.rows first.works second.works second.limits c.create.ensures c.self.invariant
+    (second.spare ∙ first.spare) (ap (λ (o : Objects). o.ready) c.self.view_is ∙ c.requires.ready) first.serial second.serial first.fresh second.fresh first.rows second.rows first.works second.works second.limits c.create.ensures.upcoming c.create.ensures.contexts c.self.invariant

@@ -1,12 +1,12 @@
 use Rattle.std.proofs.Common.{◌≡◌, List, sym, ap, subst, ◌∙◌}
 use Rattle.tree_specs.specs.declared.frame.FreeFrame.{FreeFrame}
-use Rattle.tree_links.specs.Links.{pool_of}
 use Rattle.destructors.specs.Engine.{IsAsked}
 use Rattle.destructors.specs.Frees.{OpenFrees, before, frees_of, returned}
+use Rattle.destructors.specs.Works.{IsAtWork}
 use Rattle.object_pool.specs.Objects.{Objects, frees_in}
-use Rattle.object_pool.specs.Upcoming.{nothing_comes}
-use Rattle.object_pool.proofs.Beside.{returned-beside, speaking-beside, works-same}
+use Rattle.object_pool.proofs.Beside.{returned-beside, speaking-beside}
 use Rattle.object_pool.proofs.Keeping.{answer-room}
+use Rattle.object_pool.proofs.Onward.{returned-works}
 use Rattle.object_pool.proofs.Opening.{awaits-inside, innermost-has, seen}
 use Rattle.object_pool.proofs.pool.ObjectPool.answer.Goals as goal
 
@@ -26,11 +26,13 @@ invariant_of-self c =
       kept = c.answer.ensures.kept;
       room = answer-room b.engine c.answer.new.self b.tree c.args.value c.answer.ensures.returned (innermost-has IsAsked b c.args.self.now c.self.view_is a c.requires.asked) a.room;
       given = a.given;
+      contexts = a.contexts;
       call = a.call;
       placed = a.placed;
       reference = a.reference;
       limit = a.limit;
       event = a.event;
+      context = a.context;
     }
 
 pub returns-clause-returned : goal.returns-clause-returned
@@ -46,5 +48,5 @@ returns-clause-settles c = speaking-beside c.self.inside.events.upcoming (frees_
 
 pub returns-clause-at_work : goal.returns-clause-at_work
 returns-clause-at_work c =
-    let tree = c.self.inside.tree in
-    works-same (pool_of tree) nothing_comes c.self.inside.events.upcoming (before c.answer.new.self tree.frees) c.answer.ensures.at_work
+    subst (λ (o : Objects). IsAtWork (frees_in o)) (sym (returns-clause-returned c))
+    (returned-works c.args.value c.args.self.now.works c.args.self.now.pool c.requires.asked c.requires.awaiting)

@@ -1,13 +1,14 @@
 use Rattle.std.proofs.Common.{◌∷◌, subst, ap, ◌∙◌}
 use Rattle.tree_specs.specs.declared.frame.FreeFrame.TheVariants.{Looping}
 use Rattle.tree_specs.specs.declared.frame.Purpose.TheVariants.{Emptying}
-use Rattle.tree_links.specs.Links.{pool_of}
-use Rattle.destructors.specs.Frees.{Begins, before, frees_of}
+use Rattle.destructors.specs.Frees.{Begins, frees_of}
+use Rattle.destructors.proofs.Begins.{may-empty}
 use Rattle.object_pool.specs.Objects.{Objects}
-use Rattle.object_pool.specs.Upcoming.{frees_beside, nothing_comes}
-use Rattle.object_pool.proofs.Beside.{begins-beside, works-same}
+use Rattle.object_pool.specs.Upcoming.{frees_beside}
+use Rattle.object_pool.proofs.Beside.{begins-beside}
 use Rattle.object_pool.proofs.Keeping.{begun}
 use Rattle.object_pool.proofs.Numbers.{begins-next}
+use Rattle.object_pool.proofs.Onward.{begun-works}
 use Rattle.object_pool.proofs.Opening.{awaits-inside, room-ready}
 use Rattle.object_pool.proofs.pool.ObjectPool.begin_kids.Goals as goal
 
@@ -26,6 +27,4 @@ returns-clause-begins c =
     (begins-beside c.self.inside.events.upcoming _ _ _ c.begin_kids.ensures.begins)
 
 pub returns-clause-at_work : goal.returns-clause-at_work
-returns-clause-at_work c =
-    let after = c.begin_kids.new in
-    works-same (pool_of after.tree) nothing_comes c.self.inside.events.upcoming (before after.self after.tree.frees) c.begin_kids.ensures.at_work
+returns-clause-at_work c = begun-works (Looping c.args.x Emptying) c.args.self.now.works c.args.self.now.pool _ (may-empty c.args.x c.args.self.now.pool) c.requires.awaiting (returns-clause-begins c)

@@ -1,12 +1,13 @@
 use Rattle.std.proofs.Common.{◌∷◌, subst, refl}
 use Rattle.tree_specs.specs.declared.frame.FreeFrame.TheVariants.{Unlinking}
-use Rattle.tree_links.specs.Links.{pool_of}
-use Rattle.destructors.specs.Frees.{Begins, before, frees_of}
+use Rattle.destructors.specs.Frees.{Begins, frees_of}
+use Rattle.destructors.proofs.Begins.{may-unlink}
 use Rattle.object_pool.specs.Objects.{Objects}
-use Rattle.object_pool.specs.Upcoming.{frees_beside, nothing_comes}
-use Rattle.object_pool.proofs.Beside.{begins-beside, works-same}
+use Rattle.object_pool.specs.Upcoming.{frees_beside}
+use Rattle.object_pool.proofs.Beside.{begins-beside}
 use Rattle.object_pool.proofs.Keeping.{begun}
 use Rattle.object_pool.proofs.Numbers.{begins-next}
+use Rattle.object_pool.proofs.Onward.{begun-works}
 use Rattle.object_pool.proofs.Opening.{awaits-inside, room-begins}
 use Rattle.object_pool.proofs.pool.ObjectPool.begin_unlink.Goals as goal
 
@@ -25,6 +26,4 @@ returns-clause-begins c =
     (begins-beside c.self.inside.events.upcoming _ _ _ c.begin_unlink.ensures.begins)
 
 pub returns-clause-at_work : goal.returns-clause-at_work
-returns-clause-at_work c =
-    let after = c.begin_unlink.new in
-    works-same (pool_of after.tree) nothing_comes c.self.inside.events.upcoming (before after.self after.tree.frees) c.begin_unlink.ensures.at_work
+returns-clause-at_work c = begun-works (Unlinking c.args.owner c.args.x) c.args.self.now.works c.args.self.now.pool _ (may-unlink c.args.owner c.args.x c.args.self.now.pool c.requires.live c.requires.object) c.requires.awaiting (returns-clause-begins c)

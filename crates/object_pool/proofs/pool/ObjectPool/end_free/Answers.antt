@@ -1,10 +1,10 @@
 use Rattle.std.proofs.Common.{subst}
 use Rattle.tree_specs.specs.declared.free_step.FreeStep.TheVariants.{Done}
-use Rattle.destructors.specs.Frees.{before, frees_of, Steps}
-use Rattle.tree_links.specs.Links.{pool_of}
+use Rattle.destructors.specs.Frees.{frees_of, Steps}
 use Rattle.object_pool.specs.Objects.{Objects, frees_in}
-use Rattle.object_pool.specs.Upcoming.{frees_beside, nothing_comes}
-use Rattle.object_pool.proofs.Beside.{goes_on-same, steps-beside}
+use Rattle.object_pool.specs.Upcoming.{frees_beside}
+use Rattle.object_pool.proofs.Beside.{steps-beside}
+use Rattle.object_pool.proofs.Onward.{steps-go_on}
 use Rattle.object_pool.proofs.Opening.{at_work-inside, settled-inside}
 use Rattle.object_pool.proofs.pool.ObjectPool.end_free.Goals as goal
 
@@ -22,6 +22,4 @@ returns-clause-steps c =
     subst (λ (o : Objects). Steps (frees_in o) told (frees_beside u left)) c.self.view_is (steps-beside u (frees_of c.self.inside.engine c.self.inside.tree) left told c.in_ok-answer.ensures.steps)
 
 pub returns-clause-goes_on : goal.returns-clause-goes_on
-returns-clause-goes_on c =
-    let left = c.end_free.new in
-    goes_on-same (pool_of left.tree) nothing_comes c.self.inside.events.upcoming (Done c.in_ok-answer.answer) (before left.self left.tree.frees) c.in_ok-answer.ensures.goes_on
+returns-clause-goes_on c = steps-go_on (frees_in c.args.self.now) _ (Done c.in_ok-answer.answer) c.requires.at_work (returns-clause-steps c)

@@ -6,6 +6,7 @@ use Rattle.references.proofs.Rows.{refs-same, same-changed}
 use Rattle.memory_limits.specs.Limits.{AllSums, AreLimitsOf}
 use Rattle.object_pool.specs.Objects.{Objects}
 use Rattle.object_pool.proofs.Fields.{limited-sums, limited-kept}
+use Rattle.object_pool.proofs.Hosted.{NoMoreContexts, contexts-changed}
 use Rattle.object_pool.proofs.Keeping.{spent, never}
 use Rattle.object_pool.proofs.pool.ObjectPool.limit.Goals as goal
 
@@ -25,4 +26,4 @@ invariant_of-self c =
     (subst (AreLimitsOf c.set_limit-2.new.self.limited) (sym e)
     (limited-kept c.self.inside.sums.limited c.set_limit-2.new.self.limited c.self.inside.tree.rows c.args.x c.args.max (subst (λ (o : Objects). is_row o.pool.rows c.args.x ≡ true) (sym c.self.view_is) c.requires.is)
     c.set_limit-2.ensures.limits c.set_limit-2.ensures.bound (subst (AllSums c.set_limit-2.new.self.limited) e c.set_limit-2.ensures.sums) c.self.invariant.limits))
-    c.self.invariant
+    (subst (NoMoreContexts c.self.inside.tree.rows) (sym e) (contexts-changed (limited_row c.args.max) c.self.inside.tree.rows c.args.x (λ r. refl) (λ r. refl))) c.self.invariant

@@ -7,4 +7,4 @@ pub open-requires : goal.open-requires
 open-requires c = (c.self.invariant.event (c.self.invariant.placed (ap (λ (o : Objects). o.ready) c.self.view_is ∙ c.requires)).2).event
 
 pub invariant_of-self : goal.invariant_of-self
-invariant_of-self c = waits-alike c.self.inside c.open.new.self _ _ _ c.open.ensures c.self.invariant
+invariant_of-self c = waits-alike c.self.inside c.open.new.self _ _ _ c.open.ensures.upcoming c.open.ensures.contexts c.self.invariant

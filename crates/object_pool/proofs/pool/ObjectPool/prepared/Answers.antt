@@ -1,12 +1,12 @@
 use Rattle.std.proofs.Common.{subst}
-use Rattle.tree_links.specs.Links.{pool_of}
 use Rattle.destructors.specs.Engine.{IsPreparing}
-use Rattle.destructors.specs.Frees.{Begins, before, frees_of, prepared}
+use Rattle.destructors.specs.Frees.{Begins, frees_of, prepared}
 use Rattle.object_pool.specs.Objects.{Objects}
-use Rattle.object_pool.specs.Upcoming.{frees_beside, nothing_comes}
-use Rattle.object_pool.proofs.Beside.{begins-beside, works-same}
+use Rattle.object_pool.specs.Upcoming.{frees_beside}
+use Rattle.object_pool.proofs.Beside.{begins-beside}
 use Rattle.object_pool.proofs.Keeping.{begun}
 use Rattle.object_pool.proofs.Numbers.{begins-next}
+use Rattle.object_pool.proofs.Onward.{prepared-at_work}
 use Rattle.object_pool.proofs.Opening.{awaits-inside, innermost-has}
 use Rattle.object_pool.proofs.pool.ObjectPool.prepared.Goals as goal
 
@@ -25,6 +25,4 @@ returns-clause-begins c =
     (begins-beside c.self.inside.events.upcoming _ _ _ c.prepared.ensures.begins)
 
 pub returns-clause-at_work : goal.returns-clause-at_work
-returns-clause-at_work c =
-    let after = c.prepared.new in
-    works-same (pool_of after.tree) nothing_comes c.self.inside.events.upcoming (before after.self after.tree.frees) c.prepared.ensures.at_work
+returns-clause-at_work c = prepared-at_work c.args.self.now.works c.args.self.now.pool _ c.requires.preparing c.requires.awaiting (returns-clause-begins c)

@@ -28,7 +28,7 @@ invariant_of-self c =
     let e = ap (λ (p : Pool). p.rows) c.set_size.ensures.rows in
     let n = ap (λ (p : Pool). p.next) c.set_size.ensures.rows in
     stays c.self.inside c.set_size.new.self c.resized.new.self
-    (changed-stays (sized_row c.args.size) c.self.inside.engine c.self.inside.tree c.set_size.new.self c.args.x e c.set_size.ensures.works c.set_size.ensures.spare (omega (arith, n)) (λ r. refl) (λ r. refl))
+    (changed-stays (sized_row c.args.size) c.self.inside.engine c.self.inside.tree c.set_size.new.self c.args.x e c.set_size.ensures.works c.set_size.ensures.spare (omega (arith, n)) (λ r. refl) (λ r. refl) (λ r. refl))
     (subst (AreRefsOf c.self.inside.refs.pairs) (sym e)
     (refs-same c.self.inside.refs.pairs c.self.inside.tree.rows _ (same-changed (sized_row c.args.size) c.self.inside.tree.rows c.args.x (λ r. refl) (λ r. refl)) c.self.invariant.references))
     (other-sums c.self.inside.sums.limited c.resized.new.self.limited c.self.inside.tree.rows c.set_size.new.self.rows c.self.invariant.limits c.resized.ensures.bounds

@@ -10,7 +10,7 @@ use Rattle.request_queue.proofs.Linking.{Keeps, linked-keeps, keeps-linked, queu
 use Rattle.request_queue.proofs.queues.Queues.trigger.Goals as goal
 
 next : (c : goal.After-begin) → IsNext c.args.self.now.queues c.args.q c.in_ok-first.first
-next c = next-is c.args.self.now.queues c.args.q c.in_ok-first.first (sym c.in_ok-first.ensures)
+next c = next-is c.args.self.now.queues c.args.q c.in_ok-first.first (sym c.in_ok-first.ensures.next)
 
 head : (c : goal.After-begin) → head_of (queues_in c.self.inside.lines.pairs c.self.inside.nodes.pairs) c.args.q ≡ Some (next c).entry
 head c = ap (λ (r : Register). head_of r.queues c.args.q) c.self.view_is ∙ (next c).head

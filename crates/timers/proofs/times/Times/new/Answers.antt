@@ -1,20 +1,11 @@
-use Rattle.std.proofs.Common.{◌≡◌, ℕ, List, [], refl, sym, ap, subst, ◌∙◌}
-use Rattle.std.specs.FinMap as map
-use Rattle.std.specs.FinMap.{get-empty}
-use Rattle.std.specs.Ordering.{nat_cmp}
-use Rattle.tree_specs.specs.declared.due.Due.{Due}
-use Rattle.timers.specs.Heaped.{IsKept}
+use Rattle.std.proofs.Common.{List, sym, subst}
+use Rattle.timers.specs.declared.change.Change.{Change}
+use Rattle.timers.specs.Changes.{dues_of, contexts_of}
+use Rattle.timers.specs.Heaps.{dues_in, is_open, AreKept}
+use Rattle.timers.proofs.Keeping.{keeps-new}
 use Rattle.timers.proofs.times.Times.new.Goals as goal
 
-begun : (m : map.FinMap nat_cmp ℕ) → m ≡ map.empty → IsKept [] m
-begun m e = record {
-  heap = λ p k c. refl;
-  places = record {
-    there = λ i d h. cc;
-    back = λ q i h. let bad = sym h ∙ ap (λ n. map.get n q) e ∙ get-empty nat_cmp q in cc;
-  };
-  told = tt;
-}
-
 pub invariant_of-result : goal.invariant_of-result
-invariant_of-result c = subst (λ (l : List Due). IsKept l c.new-2.result.pairs) (sym c.new.ensures.items) (begun c.new-2.result.pairs c.new-2.ensures.empty)
+invariant_of-result c =
+    let new = keeps-new c.new.result c.new-2.result.pairs c.new-2.result.spare c.new.ensures.first c.new.ensures.others c.new-2.ensures.empty in
+    (subst (λ (l : List (Change × Unit {0})). AreKept (dues_in c.new.result) (is_open c.new.result) c.new-2.result.pairs (dues_of l) (contexts_of l)) (sym c.new-3.ensures) new.0, new.1)
