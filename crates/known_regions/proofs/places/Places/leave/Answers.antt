@@ -1,0 +1,6 @@
+use Rattle.std.proofs.Common.{sym, refl, arith}
+use Rattle.known_regions.proofs.Sparing.{written-room}
+use Rattle.known_regions.proofs.places.Places.leave.Goals as goal
+
+pub returns-in-Some-clause-room : goal.returns-in-Some-clause-room
+returns-in-Some-clause-room c = written-room c.args.self.now _ c.args.region c.in-Some.held.now _ (sym c.in-Some.ensures.value) refl c.give.ensures.spare (omega arith) c.take.ensures.spare

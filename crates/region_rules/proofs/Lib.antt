@@ -1,0 +1,3 @@
+pub mod Without
+pub mod Overlapping
+pub mod Whole
