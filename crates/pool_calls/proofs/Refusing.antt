@@ -11,8 +11,13 @@ use Rattle.tree_specs.specs.Machine.View.{View, question_of}
 use Rattle.tree_specs.specs.Texts.Schedule.{misfit}
 use Rattle.host_core.specs.declared.fault.OfferFault.{OfferFault}
 use Rattle.host_core.specs.declared.fault.OfferFault.TheVariants as faults
-use Rattle.host_core.specs.Promises.{taken_by}
+use Rattle.host_core.proofs.Straying.{taken-open}
+use Rattle.host_core.specs.Promises.{taken_by, taken_in}
+use Rattle.known_regions.specs.Kept.{awaited_given}
+use Rattle.region_rules.specs.declared.awaited.Awaited.{Awaited}
 use Rattle.region_rules.specs.declared.pool_input.PoolInput.{PoolInput}
+use Rattle.region_rules.specs.Regions.{Regions}
+use Rattle.tree_specs.specs.Tree.Pool.{Pool}
 use Rattle.pool_calls.specs.Passing.{taken_given}
 use Rattle.pool_calls.specs.Pools.{PoolView, pool_question, question_unless}
 
@@ -36,3 +41,11 @@ call-fits q c quiet m = let bad : None ≡ Some NotAsked = sym (ap (λ z. misfit
 
 pub call-untaken : (v : View) (c : Call) (fd : ℕ) → question_of v ≡ Some Quiet → taken_by (question_of v) v.pool (input.Call c) ≡ Some fd → ⊥
 call-untaken v c fd quiet m = let bad : None ≡ Some fd = sym (ap (λ z. taken_by z v.pool (input.Call c)) quiet) ∙ m in cc
+
+-- what is awaited takes no descriptor
+pub call-takes-none : {A : Type 0} (d : Regions) (a : Awaited) (i : Input) (q : Option Ask) (p : Pool) (fd : ℕ) → awaited_given d i ≡ Some a → taken_by q p i ≡ Some fd → A
+call-takes-none d a i q p fd e t = none i e (taken-open q p i fd t)
+  where
+    none : {A : Type 0} (i : Input) → awaited_given d i ≡ Some a → taken_in p i ≡ Some fd → A
+    none (input.Took new) e t = cc
+    none _ e t = cc

@@ -1,13 +1,14 @@
 -- The story of a host with regions, by the laws of the host alone.
-use Rattle.std.proofs.Common.{◌≡◌, ℕ, List, [], ◌∷◌, Some, None, Bool, true, false, refl, sym, ◌∙◌, ap, subst}
+use Rattle.std.proofs.Common.{◌≡◌, ℕ, List, [], ◌∷◌, ◌++◌, map, Option, Some, None, Bool, true, false, refl, sym, ◌∙◌, ap, subst}
 use Rattle.std.specs.Prelude.{slice_get, drop, nat_lt, ◌≤◌, ◌<◌}
 use Rattle.std.proofs.Common.{arith}
 use Rattle.std.proofs.lemmas.Bool.{ltb-true, ltb-false}
 use Rattle.tree_specs.specs.declared.object.Obj.{Obj}
 use Rattle.region_rules.specs.declared.added.Answer.TheVariants as answer
-use Rattle.machine_driver.specs.Driver.{Story}
+use Rattle.machine_driver.specs.Driver.{Story, with_first}
 use Rattle.machine_driver.specs.Driver.Given.{Pass}
-use Rattle.machine_driver.specs.Seen.{sight}
+use Rattle.machine_driver.specs.Hearing.{heard_story}
+use Rattle.machine_driver.specs.Seen.{sight, item_of}
 use Rattle.machine_driver.proofs.Driving.{Begins, begins-some}
 use Rattle.tree_specs.specs.declared.call.Call.TheVariants.{New}
 use Rattle.tree_specs.specs.declared.event.Event.{Event}
@@ -17,12 +18,16 @@ use Rattle.tree_specs.specs.declared.question.Ask.{Ask}
 use Rattle.tree_specs.specs.declared.question.Ask.TheVariants as ask
 use Rattle.tree_specs.specs.declared.question.Input.{Input}
 use Rattle.tree_specs.specs.declared.question.Input.TheVariants as input
-use Rattle.tree_specs.specs.Machine.View.{View, question_of}
+use Rattle.tree_specs.specs.Machine.View.{View, question_of, rest_of, strays_of}
+use Rattle.tree_specs.specs.Rules.Items.{Item}
 use Rattle.tree_specs.specs.Rules.Items.Item.{Told, Asked}
 use Rattle.tree_specs.specs.Calls.Refusals.{size_limit}
+use Rattle.tree_specs.specs.Invariants.Consistent.{IsConsistent}
 use Rattle.tree_specs.specs.declared.reply.Refusal.TheVariants as refusal
 use Rattle.tree_specs.specs.Tree.Pool.{Pool}
 use Rattle.tree_stories.specs.Sights.{Sight, Opening, sights_of}
+use Rattle.tree_stories.proofs.Seeing.{seen-items}
+use Rattle.tree_stories.proofs.Strays.{unanswered}
 use Rattle.host_core.specs.Promises.{Waits, NextLaw, TakesAnswer}
 use Rattle.region_rules.specs.declared.added.Added.{Added}
 use Rattle.region_rules.specs.declared.added.Added.TheVariants.{Replied}
@@ -33,10 +38,11 @@ use Rattle.region_rules.specs.declared.pool_input.PoolInput.TheVariants as given
 use Rattle.region_rules.specs.Pooling.{pooling, heard, after_input, answers, place_answer, space_answer}
 use Rattle.region_rules.specs.Regions.{Regions, after_event}
 use Rattle.region_rules.specs.Schedules.{pool_misfit}
-use Rattle.region_rules.specs.Seen.Seen.{Extra}
-use Rattle.machine_driver.proofs.Listening.{heard-event, heard-passed, heard-replied}
+use Rattle.region_rules.specs.Seen.{extras}
+use Rattle.region_rules.specs.Seen.Seen.{Extra, Passed}
+use Rattle.machine_driver.proofs.Listening.{HasFirst, ShowsAll, heard-event, heard-open, heard-passed, heard-replied, heard-some, inputs-event, inputs-one, inputs-open, inputs-passed, inputs-replied}
 use Rattle.pool_calls.specs.declared.event.PoolEvent.TheVariants as event
-use Rattle.pool_calls.specs.Pools.{PoolView, pool_rest, PoolNext, PoolTakes}
+use Rattle.pool_calls.specs.Pools.{PoolView, pool_rest, pool_strays, strays_in, PoolNext, PoolTakes}
 use Rattle.pool_calls.specs.Passing.{Passes, PassesInput, with_awaited}
 use Rattle.known_regions.specs.Kept.{awaited_given}
 
@@ -46,16 +52,53 @@ view d added h = record { known = d; extras = added; host = h }
 story_of : View → Story Input Sight
 story_of h = λ is. sights_of h is
 
+-- ---- what doesn't fit
+
+-- two hosts of which the same inputs don't fit
+same-strays : (h h' : View) → ((is : List Input) → strays_of h is ≡ strays_of h' is) → (o : Option (List Input)) → strays_in h o ≡ strays_in h' o
+same-strays h h' e None = refl
+same-strays h h' e (Some is) = e is
+
+strays-passed : (h h' : View) (i : Input) → ((is : List Input) → strays_of h (i ∷ is) ≡ strays_of h' is) → (o : Option (List Input)) → strays_in h (with_first i o) ≡ strays_in h' o
+strays-passed h h' i e None = refl
+strays-passed h h' i e (Some is) = e is
+
+-- where no answer comes nothing doesn't fit
+pub unanswered-pool : (v : PoolView) → pool_strays v [] ≡ false
+unanswered-pool v = ap (strays_in v.host) (inputs-open pooling (λ d q. refl) v.known (λ is. sights_of v.host is)) ∙ unanswered v.host
+
+-- ---- there is something to come
+
+shows-all : ShowsAll pooling (λ d q. refl)
+shows-all = (λ d e. (_, _, refl), λ d q. (_, _, refl))
+
+-- as much is seen as is to come
+sight-first : (h : View) → IsConsistent h → (is : List Input) → HasFirst (rest_of h is) → HasFirst (sights_of h is)
+sight-first h whole is more = each (sights_of h is) (seen-items h is whole)
+  where
+    each : (l : List Sight) → map (λ (s : Sight). item_of s) l ≡ rest_of h is → HasFirst l
+    each [] e = let bad = e ∙ more.2 in cc
+    each (s ∷ rest) e = (s, rest, refl)
+
+story-first : (d : Regions) (h : View) → IsConsistent h → ((is : List Input) → HasFirst (rest_of h is)) → (js : List PoolInput) → HasFirst (pool_rest (view d [] h) js)
+story-first d h whole more js = heard-some pooling (λ d q. refl) d (λ is. sights_of h is) js shows-all (λ is. sight-first h whole is (more is))
+
 -- ---- what is told
 
 pub told-next : (d : Regions) (h h' : View) (e : Event) → NextLaw (Some e) h h' → PoolNext (Some (event.Host e)) (view d [] h) (view (after_event d e).0 (after_event d e).1 h')
-told-next d h h' e law = λ js. heard-event pooling (λ d' q. refl) d (λ is. sights_of h is) (λ is. sights_of h' is) (sight h.pool (Told e)) e refl law.3 js
+told-next d h h' e law = (
+  heard-event pooling (λ d' q. refl) d (λ is. sights_of h is) (λ is. sights_of h' is) (sight h.pool (Told e)) e refl law.3,
+  λ js. ap (strays_in h) (inputs-event pooling (λ d' q. refl) d (λ is. sights_of h is) (λ is. sights_of h' is) (sight h.pool (Told e)) e refl law.3 js)
+      ∙ same-strays h h' law.2 _,
+)
 
 pub added-next : (d : Regions) (as1 as2 : List Added) (h : View) (a : Added) → slice_get as1 0 ≡ Some a → as2 ≡ drop 1 as1 → PoolNext (Some (event.Added a)) (view d as1 h) (view d as2 h)
 added-next d [] as2 h a e f = cc
 added-next d (b ∷ more) as2 h a e f =
-    let same : b ≡ a = cc in
-    λ js. ap (λ z. Extra z ∷ pool_rest (view d more h) js) same ∙ ap (λ l. Extra a ∷ pool_rest (view d l h) js) (sym f)
+    let same : b ≡ a = cc in (
+      λ js. ap (λ z. Extra z ∷ pool_rest (view d more h) js) same ∙ ap (λ l. Extra a ∷ pool_rest (view d l h) js) (sym f),
+      λ js. refl,
+    )
 
 pub none-first : (as1 as2 : List Added) → slice_get as1 0 ≡ None → as2 ≡ drop 1 as1 → (as1 ≡ []) × (as2 ≡ [])
 none-first [] as2 e f = (refl, f)
@@ -82,12 +125,16 @@ pub takes-passed : (d d' : Regions) (h h' : View) (j : PoolInput) (i : Input) �
 takes-passed d d' h h' j i w t fits e =
     let q : Opening = record { ask = w.question; pool = h.pool } in
     let same : t.question ≡ w.question = sym (same-question h w t.question t.open_before) in
+    let seen : (is : List Input) → sights_of h (i ∷ is) ≡ sight h.pool (Asked w.question) ∷ sights_of h' is = λ is. t.seen is ∙ ap (λ z. sight h.pool (Asked z) ∷ sights_of h' is) same in
     record {
       question = w.question;
       open_before = w.open_now;
       fits = fits;
-      goes_on = λ js. heard-passed pooling (λ d' q. refl) d (λ is. sights_of h is) (λ is. sights_of h' is) (sight h.pool (Asked w.question)) q j i d' refl (begins h w) e
-          (λ is. t.seen is ∙ ap (λ z. sight h.pool (Asked z) ∷ sights_of h' is) same) js;
+      goes_on = heard-passed pooling (λ d' q. refl) d (λ is. sights_of h is) (λ is. sights_of h' is) (sight h.pool (Asked w.question)) q j i d' refl (begins h w) e seen;
+      strays = λ js.
+          ap (strays_in h) (inputs-passed pooling (λ d' q. refl) d (λ is. sights_of h is) (λ is. sights_of h' is) (sight h.pool (Asked w.question)) q j i d' refl (begins h w) e seen js)
+          ∙ strays-passed h h' i t.strays _;
+      more = story-first d' h' t.whole t.more;
     }
 
 pub takes-replied : (d : Regions) (h : View) (j : PoolInput) (a : Answer) → (w : Waits h) → pool_misfit (question_of h) j ≡ None → heard d w.question h.pool j ≡ answers d a → PoolTakes (view d [] h) j (view d (Replied a ∷ []) h)
@@ -97,8 +144,24 @@ takes-replied d h j a w fits e =
       question = w.question;
       open_before = w.open_now;
       fits = fits;
-      goes_on = λ js. heard-replied pooling (λ d' q. refl) d (λ is. sights_of h is) (sight h.pool (Asked w.question)) q j (Extra (Replied a) ∷ []) d refl (begins h w) e js;
+      goes_on = heard-replied pooling (λ d' q. refl) d (λ is. sights_of h is) (sight h.pool (Asked w.question)) q j (Extra (Replied a) ∷ []) d refl (begins h w) e;
+      strays = λ js. ap (strays_in h) (inputs-replied pooling (λ d' q. refl) d (λ is. sights_of h is) (sight h.pool (Asked w.question)) q j (Extra (Replied a) ∷ []) d refl (begins h w) e js);
+      more = λ js. (_, _, refl);
     }
+
+-- where no answer comes the question is all that is to come
+pub open-alone : (v : PoolView) → (w : Waits v.host) → v.extras ≡ [] → pool_rest v [] ≡ Passed (Asked w.question) ∷ []
+open-alone v w none =
+    let h : View = v.host in
+    ap (λ l. extras l ++ heard_story pooling v.known (λ is. sights_of h is) []) none
+    ∙ heard-open pooling (λ d q. refl) v.known (λ is. sights_of h is) (sight h.pool (Asked w.question)) (record { ask = w.question; pool = h.pool }) refl (begins h w)
+
+-- what the host is given alone, and doesn't take
+pub strays-alone : (v : PoolView) (i : Input) → Waits v.host → strays_of v.host (i ∷ []) ≡ true → pool_strays v (given.Host i ∷ []) ≡ true
+strays-alone v i w stray =
+    let h : View = v.host in
+    ap (strays_in h) (inputs-one pooling (λ d q. refl) v.known (λ is. sights_of h is) (sight h.pool (Asked w.question)) (record { ask = w.question; pool = h.pool }) (given.Host i) i (after_input v.known i) refl (begins h w) (host-heard v.known w.question h.pool i))
+    ∙ stray
 
 -- an input of the host
 pub takes-input : (old new : PoolView) (i : Input) → Waits old.host → old.extras ≡ [] → PassesInput old i new → PoolTakes old (given.Host i) new

@@ -2,7 +2,11 @@
 #![tactic(auto)]
 
 mod event;
+mod over_pooled;
 mod pooled;
+mod running;
+mod stage;
 
 pub use event::PoolEvent;
 pub use pooled::Pooled;
+pub use running::run_regions;

@@ -1,6 +1,6 @@
 //! `Pooled`: a host whose regions give places to the objects below them. It hands the host's questions and events on, and
 //! tells besides what comes of them for the regions.
-ghost use Rattle.std.specs.Prelude.{◌≡◌, ◌↔◌, ◌∷◌, [], ℕ, Some, None, Err, IfOk, IfSome, OnOk, OnErr, IsTrue, IsSome};
+ghost use Rattle.std.specs.Prelude.{◌≡◌, ◌↔◌, ◌∷◌, [], ℕ, true, Some, None, Err, IfOk, IfSome, OnOk, OnErr, IsTrue, IsSome};
 ghost use Rattle.tree_specs.specs.Words.Ranges.{is_sound};
 ghost use Rattle.tree_specs.specs.Machine.View.{question_of};
 ghost use Rattle.tree_specs.specs.declared.question.Ask.TheVariants.{Quiet};
@@ -48,7 +48,8 @@ impl Model for Pooled {
 
 impl Pooled {
     ghost use Rattle.std.specs.Option.{option_copied};
-    ghost use Rattle.pool_calls.specs.Pools.{start, pool_question, PoolNext, PoolTakes};
+    ghost use Rattle.tree_specs.specs.Machine.View.{strays_of};
+    ghost use Rattle.pool_calls.specs.Pools.{start, pool_question, pool_strays, PoolNext, PoolTakes};
 
     /// A host with no objects, whose first one gets the number 1, and no regions. It waits for a call.
     pub fn new(alloc: Global) -> Result<Pooled, Memory>
@@ -158,6 +159,7 @@ impl Pooled {
         ensures err { OnErr result (self.new ≡ self.old) }
         ensures not_asked { (result ≡ Err OfferFault.NotAsked) ↔ (misfit (question_of self.old.host) input ≡ Some reasons.NotAsked) }
         ensures taken { (fd : ℕ) → (result ≡ Err (OfferFault.Taken fd)) ↔ (taken_by (question_of self.old.host) self.old.host.pool input ≡ Some fd) }
+        ensures strays { (fd : ℕ) → result ≡ Err (OfferFault.Taken fd) → strays_of self.old.host (input ∷ []) ≡ true }
     {
         match self.known.awaited_in(&input) {
             Some(awaited) => self.pass(input, awaited),
@@ -217,6 +219,7 @@ impl Pooled {
         ensures err { OnErr result (self.new ≡ self.old) }
         ensures not_asked { (result ≡ Err OfferFault.NotAsked) ↔ (pool_misfit (question_of self.old.host) input ≡ Some reasons.NotAsked) }
         ensures taken { (fd : ℕ) → (result ≡ Err (OfferFault.Taken fd)) ↔ (taken_given (question_of self.old.host) self.old.host.pool input ≡ Some fd) }
+        ensures strays { (fd : ℕ) → result ≡ Err (OfferFault.Taken fd) → pool_strays self.old (input ∷ []) ≡ true }
     {
         match input {
             PoolInput::Host(input) => self.pass_input(input),
@@ -244,6 +247,7 @@ impl Pooled {
         ensures err { OnErr result (self.new ≡ self.old) }
         ensures not_asked { (result ≡ Err OfferFault.NotAsked) ↔ (pool_misfit (question_of self.old.host) input ≡ Some reasons.NotAsked) }
         ensures taken { (fd : ℕ) → (result ≡ Err (OfferFault.Taken fd)) ↔ (taken_given (question_of self.old.host) self.old.host.pool input ≡ Some fd) }
+        ensures strays { (fd : ℕ) → result ≡ Err (OfferFault.Taken fd) → pool_strays self.old (input ∷ []) ≡ true }
     {
         match input {
             PoolInput::Host(input) => self.pass_input(input),
@@ -264,6 +268,7 @@ impl Pooled {
         ensures err { OnErr result (self.new ≡ self.old) }
         ensures not_asked { (result ≡ Err OfferFault.NotAsked) ↔ (pool_misfit (pool_question self.old) input ≡ Some reasons.NotAsked) }
         ensures taken { (fd : ℕ) → (result ≡ Err (OfferFault.Taken fd)) ↔ (taken_given (pool_question self.old) self.old.host.pool input ≡ Some fd) }
+        ensures strays { (fd : ℕ) → result ≡ Err (OfferFault.Taken fd) → pool_strays self.old (input ∷ []) ≡ true }
     {
         if self.question().is_none() {
             drop(input);

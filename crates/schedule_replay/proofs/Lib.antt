@@ -5,6 +5,7 @@ pub mod ItemLaws
 pub mod HostLaws
 pub mod StationLaws
 pub mod HeaderLaws
+pub mod FirstLineLaws
 pub mod WholeLaws
 pub mod StageLaws
 pub mod SessionLaws

@@ -4,6 +4,7 @@ use Rattle.tree_specs.specs.declared.schedule.Reason.TheVariants.{Limit, Form}
 use Rattle.tree_specs.specs.Texts.Grammar.{input_of}
 use Rattle.tree_specs.specs.Texts.Lines.{Line, is_over_limit, line_limit}
 use Rattle.tree_specs.specs.Texts.Schedule.{misfit}
+use Rattle.service_rules.specs.Schedules.{runner_of as runs}
 use Rattle.line_pieces.specs.Cuts.{ended_line}
 use Rattle.line_pieces.specs.Takings.{TakesLine, last_lines}
 use Rattle.schedule_replay.specs.declared.stage.Stage.{Stage}
@@ -17,7 +18,8 @@ use Rattle.schedule_replay.specs.Stages.{IsAtHeader, replayed_all, plays, text_i
 use Rattle.schedule_replay.specs.Players.{IsInFront, stops}
 use Rattle.schedule_replay.specs.Standings.{runner_of}
 use Rattle.schedule_replay.proofs.TextLaws.{begins_nil, begins_it}
-use Rattle.schedule_replay.proofs.WholeLaws.{nothing-runs, pool-taken, service-taken, header-form, header-over, header-ends}
+use Rattle.schedule_replay.proofs.FirstLineLaws.{first-ends, first-form}
+use Rattle.schedule_replay.proofs.WholeLaws.{nothing-runs, pool-taken, service-taken, header-over}
 
 -- ---- the first line
 
@@ -30,7 +32,7 @@ header_line (Header alloc) (Pool play) n text (Ok done) h one short e = λ rest.
 header_line (Header alloc) (Service play) n text (Ok done) h one short e = λ rest.
     service-taken play.version text rest e.1.0 e.0 e.1.1 ∙ e.1.2.goes_on 2 rest ∙ ap (λ (m : ℕ). plays (Service play) (m + 1) rest) (sym one)
 header_line (Header alloc) t n text (Err (errors.Refused line reason)) h one short e = λ rest.
-    rw (e.0, e.1.0, e.1.1) (header-form (ended_line text) rest short (nothing-runs text e.1.2))
+    rw (e.0, e.1.0, e.1.1) (first-form runs (ended_line text) rest short (nothing-runs text e.1.2))
 header_line (Header alloc) t n text (Err errors.Memory) h one short e = λ rest. rw e.0 (begins_nil (replayed_all (ended_line text ∷ rest)).text)
 header_line (Header alloc) t n text (Err _) h one short e = absurd e.1
 
@@ -45,7 +47,7 @@ header_limit (Header alloc) n h one = λ line rest over.
 pub header_end : (s : Stage) (n : ℕ) (cut : Bool) → IsAtHeader s → ready s n → (text : List ℕ) → length text ≤ line_limit → plays s n (last_lines cut text) ≡ record { text = Some []; refused = Some (n, Form) }
 header_end (Pool play) n cut h one = absurd h
 header_end (Service play) n cut h one = absurd h
-header_end (Header alloc) n cut h one = λ text short. header-ends cut text short ∙ rw one refl
+header_end (Header alloc) n cut h one = λ text short. first-ends runs cut text short ∙ rw one refl
 
 -- ---- at every stage
 

@@ -38,7 +38,8 @@ use Rattle.schedule_replay.specs.Replays.{Replayed, with_front, replayed_lines, 
 use Rattle.schedule_replay.specs.Runs.{WritesText, IsDone, IsBad, IsFrontOf, header_in, mode_in}
 use Rattle.schedule_replay.specs.Stages.{replayed_all}
 use Rattle.schedule_replay.specs.Standings.{runner_of}
-use Rattle.schedule_replay.proofs.RunLaws.{follows-lines, not-over}
+use Rattle.schedule_replay.proofs.FirstLineLaws.{first-over, taken-so}
+use Rattle.schedule_replay.proofs.RunLaws.{follows-lines}
 use Rattle.schedule_replay.proofs.HeaderLaws.{headerless}
 use Rattle.schedule_replay.proofs.StationLaws.{shows-nothing}
 use Rattle.schedule_replay.proofs.TextLaws.{begins_nil, front-nil}
@@ -83,45 +84,20 @@ host-begins v = λ i. runner_by v (λ is. story-items 1 is (omega arith) i) (λ 
 service-begins : (v : Version) → service_runner v ≡ runner_of (input_of v) misfit (station_standing unborn)
 service-begins v = λ i. runner_by v (λ is. ap (λ (o : Option (List Item)). items_or_none o) (sym (first-to-come is)) i) (λ is. sym (first-strays is) i)
 
-taken-so : (text : List ℕ) (rest : List Line) (r : Runner Input) → runs text ≡ Some r → replayed_all (ended_line text ∷ rest) ≡ with_front header (replayed_lines r 2 rest)
-unfolding judged_lines transcript_lines replayed_lines
-taken-so text rest r e = rw e refl
-
 pub pool-taken : (v : Version) (text : List ℕ) (rest : List Line) → header_of text ≡ Some (says v Pool) → replayed_all (ended_line text ∷ rest) ≡ with_front header (replayed_lines (runner_of (input_of v) misfit (host_standing (begin 1))) 2 rest)
-pool-taken v text rest e = taken-so text rest (pool_runner v) (runs-so text v Pool e) ∙ ap (λ (r : Runner Input). with_front header (replayed_lines r 2 rest)) (host-begins v)
+pool-taken v text rest e = taken-so runs text rest (pool_runner v) (runs-so text v Pool e) ∙ ap (λ (r : Runner Input). with_front header (replayed_lines r 2 rest)) (host-begins v)
 
 -- by a service of which nothing was seen yet
 pub service-taken : (v : Version) (text : List ℕ) (rest : List Line) (first : StationView) → header_of text ≡ Some (says v Service) → Shows [] unborn first → replayed_all (ended_line text ∷ rest) ≡ with_front header (replayed_lines (runner_of (input_of v) misfit (station_standing first)) 2 rest)
 service-taken v text rest first e unseen =
     let r : Replayed = replayed_lines (runner_of (input_of v) misfit (station_standing first)) 2 rest in
-    taken-so text rest (service_runner v) (runs-so text v Service e) ∙ ap (λ (r : Runner Input). with_front header (replayed_lines r 2 rest)) (service-begins v)
+    taken-so runs text rest (service_runner v) (runs-so text v Service e) ∙ ap (λ (r : Runner Input). with_front header (replayed_lines r 2 rest)) (service-begins v)
     ∙ ap (with_front header) (follows-lines (input_of v) misfit [] (station_standing unborn) (station_standing first) 2 rest (shows-nothing unborn first unseen) ∙ sym (front-nil r))
 
 -- ---- it is refused
 
-refused-at-once : (line : Line) (rest : List Line) → runner_after runs line ≡ None → replayed_all (line ∷ rest) ≡ record { text = Some []; refused = Some (1, header_reason line) }
-unfolding judged_lines transcript_lines
-refused-at-once line rest e = rw e refl
-
 pub header-over : (line : Line) (rest : List Line) → is_over_limit 1 line ≡ true → replayed_all (line ∷ rest) ≡ record { text = Some []; refused = Some (1, Limit) }
-header-over line rest over = refused-at-once line rest (no-header line over) ∙ rw over refl
-
-pub header-form : (line : Line) (rest : List Line) → length line.text ≤ line_limit → runner_after runs line ≡ None → replayed_all (line ∷ rest) ≡ record { text = Some []; refused = Some (1, Form) }
-header-form line rest short e = refused-at-once line rest e ∙ rw (not-over 1 line (omega arith) short) refl
-
--- the schedule ends before its second line
-pub header-ends : (cut : Bool) (text : List ℕ) → length text ≤ line_limit → replayed_all (last_lines cut text) ≡ record { text = Some []; refused = Some (1, Form) }
-unfolding judged_lines transcript_lines
-header-ends true text short = header-form (record { text = text; ended = false }) [] short refl
-header-ends false text short = refl
-
--- ---- a whole schedule
-
-pub judge_is : (bytes : List ℕ) (text : Option (List ℕ)) (refused : Option (ℕ × Reason)) → replayed_all (lines bytes) ≡ record { text = text; refused = refused } → judge bytes ≡ refused
-judge_is bytes text refused e = ap (λ (r : Replayed). r.refused) e
-
-pub text_is : (bytes : List ℕ) (text : Option (List ℕ)) (refused : Option (ℕ × Reason)) → replayed_all (lines bytes) ≡ record { text = text; refused = refused } → transcript_of bytes ≡ text
-text_is bytes text refused e = ap (λ (r : Replayed). r.text) e
+header-over line rest over = first-over runs line rest over (no-header line over)
 
 -- ---- there always is a transcript
 
@@ -170,18 +146,6 @@ lines-text [] = inl ([], refl)
 lines-text (first ∷ rest) = first-text first (judged_lines runs (first ∷ rest)).inputs
 
 -- ---- what is written
-
-writes : (o : Option (List ℕ)) (text : List ℕ) (held now : Option (List ℕ)) → o ≡ Some text → Appends held now text → WritesText o held now
-writes o text held now e put = rw e put
-
-pub is_done : (bytes : List ℕ) (left held now : Option (List ℕ)) (text : List ℕ) → IsAtEnd left → replayed_all (lines bytes) ≡ record { text = Some text; refused = None } → Appends held now text → IsDone bytes left held now
-is_done bytes left held now text at_end e put =
-    record { read = at_end; accepted = judge_is bytes (Some text) None e; text = writes _ text held now (text_is bytes (Some text) None e) put }
-
-pub is_bad : (bytes : List ℕ) (held now : Option (List ℕ)) (text : List ℕ) (line : ℕ) (reason : Reason) → replayed_all (lines bytes) ≡ record { text = Some text; refused = Some (line, reason) } → Appends held now text
-    → IsBad bytes line reason held now
-is_bad bytes held now text line reason e put =
-    record { refused = judge_is bytes (Some text) (Some (line, reason)) e; text = writes _ text held now (text_is bytes (Some text) (Some (line, reason)) e) put }
 
 pub is_front : (bytes : List ℕ) (held now : Option (List ℕ)) (front : List ℕ) → BeginsText front (replayed_all (lines bytes)).text → Appends held now front → IsFrontOf bytes held now
 unfolding Has

@@ -3,7 +3,7 @@ use Rattle.std.specs.Prelude.{◌≡◌, ℕ, List, ◌++◌, Option, Some, None
 use Rattle.std.specs.Option.{option_map}
 use Rattle.tree_specs.specs.declared.schedule.Reason.{Reason}
 use Rattle.tree_specs.specs.Texts.Lines.{Line}
-use Rattle.tree_specs.specs.Texts.Runners.{Runner, Judged, judged_from}
+use Rattle.tree_specs.specs.Texts.Runners.{Runner, Judged, judged_from, judged_lines, transcript_lines}
 use Rattle.schedule_replay.specs.declared.stop.Stop.{Stop}
 use Rattle.schedule_replay.specs.declared.stop.Stop.TheVariants as errors
 
@@ -26,6 +26,10 @@ of_judged r j = record { text = r.told j.inputs; refused = j.refused }
 -- the lines from number n on, where they are run so
 unfoldable pub replayed_lines : {J : Type 0} → Runner J → ℕ → List Line → Replayed
 replayed_lines r n ls = of_judged r (judged_from r r.course n ls)
+
+-- all lines, the first one too, where this says what runs those after it
+abbrev pub replayed_by : {J : Type 0} → (List ℕ → Option (Runner J)) → List Line → Replayed
+replayed_by runs ls = record { text = transcript_lines runs ls; refused = (judged_lines runs ls).refused }
 
 -- these bytes begin what is to be written
 abbrev pub BeginsText : List ℕ → Option (List ℕ) → Type 0

@@ -2,7 +2,6 @@
 use Rattle.std.specs.Prelude.{◌≡◌, ℕ, List, [], Result, Ok, Err}
 use Rattle.tree_specs.specs.Texts.Grammar.{input_of}
 use Rattle.tree_specs.specs.Texts.Lines.{Line}
-use Rattle.tree_specs.specs.Texts.Runners.{judged_lines, transcript_lines}
 use Rattle.tree_specs.specs.Texts.Schedule.{misfit}
 use Rattle.service_rules.specs.Schedules.{runner_of as runner_after}
 use Rattle.schedule_replay.specs.declared.stage.Stage.{Stage}
@@ -11,13 +10,13 @@ use Rattle.schedule_replay.specs.declared.stop.Stop.{Stop}
 use Rattle.schedule_replay.specs.Hosts.{host_standing}
 use Rattle.schedule_replay.specs.Stations.{station_standing}
 use Rattle.schedule_replay.specs.Plays.{comes}
-use Rattle.schedule_replay.specs.Replays.{Replayed}
+use Rattle.schedule_replay.specs.Replays.{Replayed, replayed_by}
 use Rattle.schedule_replay.specs.Standings.{Waits}
 use Rattle.schedule_replay.specs.Starts.{StartsAfter}
 
 -- all lines, the first one too
 abbrev pub replayed_all : List Line → Replayed
-replayed_all ls = record { text = transcript_lines runner_after ls; refused = (judged_lines runner_after ls).refused }
+replayed_all ls = replayed_by runner_after ls
 
 abbrev pub IsAtHeader : Stage → Type 0
 IsAtHeader (Header alloc) = Unit {0}
