@@ -1,6 +1,6 @@
 -- The story of a driver that answers no question itself: as many answers come as the outside gives.
-use Rattle.std.specs.Prelude.{◌≡◌, suc, List, length, Option, None}
-use Rattle.machine_driver.specs.Driver.{Driver, Story, filled, driven, items_or_none}
+use Rattle.std.specs.Prelude.{◌≡◌, suc, length, None}
+use Rattle.machine_driver.specs.Driver.{Driver, Story, driven, items_or_none}
 
 -- it answers nothing itself
 abbrev pub Listens : {D T E Q I J U : Type 0} → Driver D T E Q I J U → Type 0
@@ -9,7 +9,3 @@ Listens {D = D} {Q = Q} driver = (d : D) (q : Q) → driver.own d q ≡ None
 -- so its story needs no bound
 abbrev pub heard_story : {D T E Q I J U : Type 0} → Driver D T E Q I J U → D → Story I T → Story J U
 heard_story driver d s js = items_or_none (driven driver (suc (length js)) d s js)
-
--- the inputs that the machine gets then
-abbrev pub heard_inputs : {D T E Q I J U : Type 0} → Driver D T E Q I J U → D → Story I T → List J → Option (List I)
-heard_inputs driver d s js = filled driver (suc (length js)) d s js

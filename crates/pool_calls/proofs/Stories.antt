@@ -40,7 +40,8 @@ use Rattle.region_rules.specs.Regions.{Regions, after_event}
 use Rattle.region_rules.specs.Schedules.{pool_misfit}
 use Rattle.region_rules.specs.Seen.{extras}
 use Rattle.region_rules.specs.Seen.Seen.{Extra, Passed}
-use Rattle.machine_driver.proofs.Listening.{HasFirst, ShowsAll, heard-event, heard-open, heard-passed, heard-replied, heard-some, inputs-event, inputs-one, inputs-open, inputs-passed, inputs-replied}
+use Rattle.machine_driver.proofs.Listening.{heard-event, heard-open, heard-passed, heard-replied}
+use Rattle.region_rules.proofs.Inputs.{HasFirst, ShowsAll, heard-some, inputs-event, inputs-one, inputs-open, inputs-passed, inputs-replied}
 use Rattle.pool_calls.specs.declared.event.PoolEvent.TheVariants as event
 use Rattle.pool_calls.specs.Pools.{PoolView, pool_rest, pool_strays, strays_in, PoolNext, PoolTakes}
 use Rattle.pool_calls.specs.Passing.{Passes, PassesInput, with_awaited}

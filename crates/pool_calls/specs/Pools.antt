@@ -1,7 +1,7 @@
 -- A host with regions, as its callers see it: what its calls mean for the story still to come.
 use Rattle.std.specs.Prelude.{◌≡◌, Bool, false, List, [], ◌∷◌, ◌++◌, Option, Some, None}
 use Rattle.machine_driver.specs.Driver.{Story}
-use Rattle.machine_driver.specs.Hearing.{heard_story, heard_inputs}
+use Rattle.machine_driver.specs.Hearing.{heard_story}
 use Rattle.tree_specs.specs.declared.question.Ask.{Ask}
 use Rattle.tree_specs.specs.declared.question.Input.{Input}
 use Rattle.tree_specs.specs.Machine.View.{View, question_of, strays_of, begin}
@@ -10,6 +10,7 @@ use Rattle.tree_stories.specs.Sights.{sights_of}
 use Rattle.host_core.specs.Promises.{Waits}
 use Rattle.region_rules.specs.declared.added.Added.{Added}
 use Rattle.region_rules.specs.declared.pool_input.PoolInput.{PoolInput}
+use Rattle.region_rules.specs.Inputs.{heard_inputs}
 use Rattle.region_rules.specs.Pooling.{pooling}
 use Rattle.region_rules.specs.Regions.{Regions, no_regions}
 use Rattle.region_rules.specs.Schedules.{pool_misfit}

@@ -8,7 +8,7 @@ ghost use Rattle.pool_calls.specs.Runs.{RunsRegions, WritesRegions};
 
 use crate::stage::RegionStage;
 use outside::{Sink, Source};
-use schedule_replay::{Ran, Stop, ending, play};
+use schedule_replay::{Ran, Stop, ending, play_all};
 use std::alloc::Global;
 
 /// Reads a schedule of regions to its end, and writes its transcript.
@@ -17,7 +17,7 @@ fn run<S: Source, K: Sink>(alloc: Global, input: &mut S, out: &mut K) -> Result<
     ensures reads { Counts (S.faults input.old) (S.faults input.new) (result ≡ Err Stop.Read) }
     ensures writes { Counts (K.faults out.old) (K.faults out.new) (result ≡ Err Stop.Write) }
 {
-    play(alloc, RegionStage::Header(alloc), input, out)
+    play_all(alloc, RegionStage::Header(alloc), input, out)
 }
 
 /// Replays the schedule of regions that the source gives, whose first line is `tv regions 1`, into its transcript, which

@@ -38,7 +38,7 @@ pub enum RegionStage {
 fn stage_after(alloc: Global, line: &[u8]) -> Result<RegionStage, Stop>
     ensures { StartsRegions line.now result }
 {
-    if line != b"tv regions 1" {
+    if line != b"tv regions 1".as_slice() {
         return Err(no_header());
     }
     Ok(RegionStage::Running(begin_regions(alloc)?))

@@ -1,3 +1,7 @@
+pub mod Inputs
 pub mod Without
 pub mod Overlapping
 pub mod Whole
+pub mod Ends
+pub mod Returns
+pub mod Once

@@ -93,7 +93,7 @@ elsewhere-no : (d : Regions) (j : PoolInput) (us : List Seen) (d' : Regions) →
 elsewhere-no d (given.Host i) us d' e = cc
 elsewhere-no d j us d' e = cc
 
-reply-is : (d : Regions) (q : Ask) (p : Pool) (j : PoolInput) (us : List Seen) (d' : Regions) → heard d q p j ≡ Reply us d' → (z : Answer) × (us ≡ Extra (Replied z) ∷ []) × (d' ≡ d)
+pub reply-is : (d : Regions) (q : Ask) (p : Pool) (j : PoolInput) (us : List Seen) (d' : Regions) → heard d q p j ≡ Reply us d' → (z : Answer) × (us ≡ Extra (Replied z) ∷ []) × (d' ≡ d)
 reply-is d ask.Quiet p (given.Host i) us d' e = cc
 reply-is d ask.Quiet p (given.Region owner bytes name) us d' e = only-reply d bytes (nat_lt bytes size_limit) _ _ _ us d' e
 reply-is d ask.Quiet p (given.Place x) us d' e = one-reply d _ us d' e

@@ -1,9 +1,11 @@
 pub mod Places
 pub mod Regions
 pub mod Within
+pub mod Returning
 pub mod Seen
 pub mod Pooling
 pub mod Lines
 pub mod Ranges
+pub mod Inputs
 pub mod Schedules
 pub mod Examples

@@ -1,6 +1,6 @@
 -- Regions as a driver of the tree machine: it answers no question itself, hears each event and adds to it.
-use Rattle.std.specs.Prelude.{ℕ, suc, ◌-◌, nat_lt, List, [], ◌∷◌, length, Option, Some, None, if◌then◌else◌}
-use Rattle.machine_driver.specs.Driver.{Driver, Kind, Given, Story, filled}
+use Rattle.std.specs.Prelude.{ℕ, ◌-◌, nat_lt, List, [], ◌∷◌, Option, Some, None, if◌then◌else◌}
+use Rattle.machine_driver.specs.Driver.{Driver, Kind, Given, Story}
 use Rattle.machine_driver.specs.Driver.Kind.{Event as AnEvent, Question as AQuestion}
 use Rattle.machine_driver.specs.Driver.Given.{Pass, Reply, Misfit}
 use Rattle.machine_driver.specs.Hearing.{heard_story}
@@ -25,6 +25,7 @@ use Rattle.region_rules.specs.declared.added.Answer.TheVariants as answer
 use Rattle.region_rules.specs.declared.awaited.Awaited.TheVariants as awaited
 use Rattle.region_rules.specs.declared.pool_input.PoolInput.{PoolInput}
 use Rattle.region_rules.specs.declared.pool_input.PoolInput.TheVariants as given
+use Rattle.region_rules.specs.Inputs.{heard_inputs}
 use Rattle.region_rules.specs.Places.{top_of}
 use Rattle.region_rules.specs.Regions.{Region, Regions, no_regions, region_at, home_of, place_in, awaiting, awaited_by, after_event}
 use Rattle.region_rules.specs.Seen.{Seen, extras}
@@ -99,7 +100,7 @@ machine is = story_seen 1 is
 
 -- the host's inputs: those that it was given, and the call of each region that isn't too big
 abbrev pub host_inputs : List PoolInput → Option (List Input)
-host_inputs is = filled pooling (suc (length is)) no_regions machine is
+host_inputs is = heard_inputs pooling no_regions machine is
 
 -- what is seen of a host with regions whose first object gets the number 1
 abbrev pub regions_story : List PoolInput → List Seen

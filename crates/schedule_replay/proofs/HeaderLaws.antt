@@ -21,19 +21,23 @@ header-short One Service = omega arith
 header-short Two Pool = omega arith
 header-short Two Service = omega arith
 
+-- a text is no shorter one
+pub no-shorter : (text short : List ℕ) → length short < length text → bytes_eq text short ≡ false
+no-shorter text short lt = by_test (bytes_eq text short) refl
+  where
+    by_test : (b : Bool) → bytes_eq text short ≡ b → b ≡ false
+    by_test false e = refl
+    by_test true e = let n = ap length ((bytes_eq-Decides text short).0 e) in absurd (omega (arith, n, lt))
+
 -- a line past a limit is no header
 too-long : (text : List ℕ) → 21 < length text → (v : Version) (mode : Mode) → bytes_eq text (header_text v mode) ≡ false
-too-long text lt v mode = by_test (bytes_eq text (header_text v mode)) refl
-  where
-    by_test : (b : Bool) → bytes_eq text (header_text v mode) ≡ b → b ≡ false
-    by_test false e = refl
-    by_test true e = let n = ap length ((bytes_eq-Decides text (header_text v mode)).0 e) in absurd (omega (arith, n, lt, header-short v mode))
+too-long text lt v mode = let short = header-short v mode in no-shorter text (header_text v mode) (omega (arith, lt, short))
 
 long-text : (text : List ℕ) → 21 < length text → header_of text ≡ None
 unfolding header_of
 long-text text lt = rw (too-long text lt One Pool, too-long text lt One Service, too-long text lt Two Pool, too-long text lt Two Service) refl
 
-over-long : (line : Line) → is_over_limit 1 line ≡ true → line_limit < length line.text
+pub over-long : (line : Line) → is_over_limit 1 line ≡ true → line_limit < length line.text
 over-long line over = by_test (ltb line_limit (length line.text)) refl over
   where
     by_test : (b : Bool) → ltb line_limit (length line.text) ≡ b → (b || false) ≡ true → line_limit < length line.text

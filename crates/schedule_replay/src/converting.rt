@@ -7,7 +7,7 @@ ghost use Rattle.schedule_replay.specs.Played.{ran_of};
 
 use crate::conversion::Conversion;
 use crate::ran::{Ran, ending};
-use crate::session::play;
+use crate::session::play_all;
 use crate::stop::Stop;
 use outside::{Sink, Source};
 use std::alloc::Global;
@@ -18,7 +18,7 @@ fn run<S: Source, K: Sink>(alloc: Global, input: &mut S, out: &mut K) -> Result<
     ensures reads { Counts (S.faults input.old) (S.faults input.new) (result ≡ Err Stop.Read) }
     ensures writes { Counts (K.faults out.old) (K.faults out.new) (result ≡ Err Stop.Write) }
 {
-    play(alloc, Conversion::new(alloc), input, out)
+    play_all(alloc, Conversion::new(alloc), input, out)
 }
 
 /// Turns the schedule that the source gives, of either version, into one of version 2, which goes to the sink piece by

@@ -23,5 +23,5 @@ pub use play::Play;
 pub use player::Player;
 pub use ran::{Ran, ending};
 pub use replaying::replay;
-pub use session::play;
+pub use session::play_all;
 pub use stop::Stop;

@@ -8,7 +8,7 @@ ghost use Rattle.schedule_replay.specs.Stories.{WritesStory};
 ghost use Rattle.tree_specs.specs.declared.schedule.Reason.{Reason};
 
 use crate::ran::{Ran, ending};
-use crate::session::play;
+use crate::session::play_all;
 use crate::stage::Stage;
 use crate::stop::Stop;
 use outside::{Sink, Source};
@@ -20,7 +20,7 @@ fn run<S: Source, K: Sink>(alloc: Global, input: &mut S, out: &mut K) -> Result<
     ensures reads { Counts (S.faults input.old) (S.faults input.new) (result ≡ Err Stop.Read) }
     ensures writes { Counts (K.faults out.old) (K.faults out.new) (result ≡ Err Stop.Write) }
 {
-    play(alloc, Stage::Header(alloc), input, out)
+    play_all(alloc, Stage::Header(alloc), input, out)
 }
 
 /// Replays the schedule that the source gives into its transcript, which goes to the sink piece by

@@ -102,7 +102,7 @@ fn pass<P: Player, S: Source, K: Sink>(
 }
 
 /// Reads a schedule to its end, and writes what this player plays of it.
-pub fn play<P: Player, S: Source, K: Sink>(
+pub fn play_all<P: Player, S: Source, K: Sink>(
     alloc: Global,
     player: P,
     input: &mut S,
