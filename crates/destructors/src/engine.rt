@@ -194,6 +194,7 @@ impl FreeEngine {
 
     /// The object that the next step lets go of: it leaves its owner, or its handler runs and it is to go after it.
     /// None exactly where the step does neither.
+    #[inline(always)]
     pub fn lets_go(&self, tree: &Tree, refs: &Refs) -> Option<Obj>
         requires refs { AreRefsOf refs.now.pairs tree.now.rows }
         requires kept { AreKept self.now tree.now }

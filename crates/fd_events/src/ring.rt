@@ -269,6 +269,7 @@ impl Ring {
     }
 
     /// Loses all events of a context, which stays. It takes the time of its events.
+    #[inline(always)]
     pub fn clear(&mut self, c: Obj)
         ensures watches { self.new.watches ≡ ring_without self.old.watches c }
         ensures none { ring_in self.new.watches c ≡ [] }
@@ -306,6 +307,7 @@ impl Ring {
     }
 
     /// The event of a context that is looked at first. None exactly where there is none.
+    #[inline(always)]
     fn oldest(&self, c: Obj) -> Option<Obj>
         ensures all { from_on (ring_in self.now.watches c) result ≡ ring_in self.now.watches c }
         ensures next { result ≡ option_map object_of (slice_get (ring_in self.now.watches c) 0) }

@@ -131,6 +131,7 @@ fn check_kind(x: Obj, is: bool) -> Result<(), Refusal>
 }
 
 /// Refuses a context that is none, that is being freed, or that is to be after its turn. The first one always is there.
+#[inline(always)]
 #[tactic(auto, using(crate::proofs::Allowed::refused_three, crate::proofs::Allowed::allowed_three))]
 pub fn check_context(context: Obj, objects: &Subject) -> Result<(), Refusal>
     ensures { result ≡ checked (unusable objects.now context) }
@@ -145,6 +146,7 @@ pub fn check_context(context: Obj, objects: &Subject) -> Result<(), Refusal>
 }
 
 /// Refuses a descriptor that isn't open.
+#[inline(always)]
 pub fn check_open(fd: u32, pool: &ObjectPool) -> Result<(), Refusal>
     ensures { result ≡ checked (open_one pool.now.pool fd) }
 {

@@ -43,6 +43,7 @@ fn check_new(owner: Owner, size: u64, pool: &ObjectPool) -> Result<(), Refusal>
 
 /// The tests of a new request, which has an object of its own. The size of this is tested first, so that adding
 /// `OVERHEAD` to it twice can't overflow.
+#[inline(always)]
 #[tactic(auto, using(crate::proofs::Allowed::refused_first, crate::proofs::Allowed::allowed_first))]
 fn check_new_request(owner: Owner, size: u64, pool: &ObjectPool) -> Result<(), Refusal>
     ensures { result ≡ checked (refused pool.now.pool (Test.IsSmall size ∷ Test.IsOwner owner ∷ Test.HasRoom 2 ∷ Test.Fits owner (size + overhead + overhead) ∷ [])) }
@@ -58,6 +59,7 @@ fn check_new_request(owner: Owner, size: u64, pool: &ObjectPool) -> Result<(), R
 }
 
 /// The tests of setting the end time of a request.
+#[inline(always)]
 #[tactic(auto, using(crate::proofs::Allowed::refused_three, crate::proofs::Allowed::allowed_three))]
 fn check_endtime(x: Obj, context: Obj, pool: &ObjectPool) -> Result<(), Refusal>
     ensures { result ≡ checked (refused pool.now.pool (Test.IsObject x ∷ Test.IsRequest x ∷ Test.IsInProgress x ∷ Test.IsContext context ∷ Test.HasNumber ∷ [])) }
@@ -76,6 +78,7 @@ fn check_object(x: Obj, second: Test, third: Test, pool: &ObjectPool) -> Result<
 }
 
 /// Tests that an object is there, two more tests of it, and that something may come in a context.
+#[inline(always)]
 #[tactic(auto, using(crate::proofs::Allowed::refused_two, crate::proofs::Allowed::allowed_two))]
 fn check_object_in(
     x: Obj,
@@ -92,6 +95,7 @@ fn check_object_in(
 }
 
 /// The tests of putting an object below an owner.
+#[inline(always)]
 #[tactic(auto, using(crate::proofs::Allowed::refused_three, crate::proofs::Allowed::allowed_three))]
 fn check_placing(owner: Owner, x: Obj, pool: &ObjectPool) -> Result<(), Refusal>
     ensures { result ≡ checked (refused pool.now.pool (Test.IsObject x ∷ Test.IsMovable x ∷ Test.IsOwner owner ∷ Test.IsNotDying x ∷ Test.IsNotInside x owner ∷ [])) }
@@ -102,6 +106,7 @@ fn check_placing(owner: Owner, x: Obj, pool: &ObjectPool) -> Result<(), Refusal>
 }
 
 /// The tests of giving an object, or a reference to it, from one owner to another.
+#[inline(always)]
 #[tactic(auto, using(crate::proofs::Allowed::refused_three, crate::proofs::Allowed::allowed_three))]
 fn check_reparent(from: Owner, to: Owner, x: Obj, pool: &ObjectPool) -> Result<(), Refusal>
     ensures { result ≡ checked (refusals pool.now.pool (ReparentOf from to x)) }
@@ -112,6 +117,7 @@ fn check_reparent(from: Owner, to: Owner, x: Obj, pool: &ObjectPool) -> Result<(
 }
 
 /// The tests of a new reference to an object.
+#[inline(always)]
 #[tactic(auto, using(crate::proofs::Allowed::refused_three, crate::proofs::Allowed::allowed_three))]
 fn check_reference(owner: Owner, x: Obj, pool: &ObjectPool) -> Result<(), Refusal>
     ensures { result ≡ checked (refusals pool.now.pool (ReferenceOf owner x)) }
@@ -122,6 +128,7 @@ fn check_reference(owner: Owner, x: Obj, pool: &ObjectPool) -> Result<(), Refusa
 }
 
 /// The tests of giving an object another size.
+#[inline(always)]
 #[tactic(auto, using(crate::proofs::Allowed::refused_three, crate::proofs::Allowed::allowed_three))]
 fn check_resize(x: Obj, size: u64, pool: &ObjectPool) -> Result<(), Refusal>
     ensures { result ≡ checked (refusals pool.now.pool (ResizeOf x size)) }
@@ -132,6 +139,7 @@ fn check_resize(x: Obj, size: u64, pool: &ObjectPool) -> Result<(), Refusal>
 }
 
 /// The tests of a new event on a descriptor below an owner.
+#[inline(always)]
 #[tactic(auto, using(crate::proofs::Allowed::refused_three, crate::proofs::Allowed::allowed_three))]
 fn check_watching(owner: Owner, fd: u32, context: Obj, pool: &ObjectPool) -> Result<(), Refusal>
     ensures { result ≡ checked (refused pool.now.pool (Test.IsOwner owner ∷ Test.IsOpen fd ∷ Test.IsUnwatched fd ∷ Test.IsContext context ∷ Test.HasRoom 1 ∷ Test.Fits owner overhead ∷ [])) }
@@ -143,6 +151,7 @@ fn check_watching(owner: Owner, fd: u32, context: Obj, pool: &ObjectPool) -> Res
 }
 
 /// The tests of a new timer below an owner.
+#[inline(always)]
 #[tactic(auto, using(crate::proofs::Allowed::refused_two, crate::proofs::Allowed::allowed_two))]
 fn check_timer(owner: Owner, context: Obj, pool: &ObjectPool) -> Result<(), Refusal>
     ensures { result ≡ checked (refused pool.now.pool (Test.IsOwner owner ∷ Test.IsContext context ∷ Test.HasRoom 1 ∷ Test.Fits owner overhead ∷ [])) }
@@ -153,6 +162,7 @@ fn check_timer(owner: Owner, context: Obj, pool: &ObjectPool) -> Result<(), Refu
 }
 
 /// The tests of starting or stopping a queue, which isn't being freed.
+#[inline(always)]
 fn check_lasting_queue(queue: Obj, pool: &ObjectPool) -> Result<(), Refusal>
     ensures { result ≡ checked (refused pool.now.pool (Test.IsObject queue ∷ Test.IsQueue queue ∷ Test.IsNotGoing queue ∷ [])) }
 {
@@ -160,6 +170,7 @@ fn check_lasting_queue(queue: Obj, pool: &ObjectPool) -> Result<(), Refusal>
 }
 
 /// The tests of putting a request into a queue. Those of the queue come first.
+#[inline(always)]
 #[tactic(auto, using(crate::proofs::Allowed::refused_three, crate::proofs::Allowed::allowed_three))]
 fn check_enqueue(queue: Obj, x: Obj, context: Obj, pool: &ObjectPool) -> Result<(), Refusal>
     ensures { result ≡ checked (refused pool.now.pool (Test.IsObject queue ∷ Test.IsQueue queue ∷ Test.IsNotGoing queue ∷ Test.IsObject x ∷ Test.IsRequest x ∷ Test.IsNotDying x ∷ Test.IsContext context ∷ Test.HasRoom 1 ∷ Test.Fits (At x) overhead ∷ [])) }
@@ -172,6 +183,7 @@ fn check_enqueue(queue: Obj, x: Obj, context: Obj, pool: &ObjectPool) -> Result<
 }
 
 /// The tests of freeing an object.
+#[inline(always)]
 pub fn check_free(x: Obj, pool: &ObjectPool) -> Result<(), Refusal>
     ensures { result ≡ checked (refusals pool.now.pool (FreeOf x)) }
 {
@@ -179,6 +191,7 @@ pub fn check_free(x: Obj, pool: &ObjectPool) -> Result<(), Refusal>
 }
 
 /// The tests of making a context, an event that waits for nothing yet, or a queue: it counts as an object of no size.
+#[inline(always)]
 fn check_small(owner: Owner, pool: &ObjectPool) -> Result<(), Refusal>
     ensures { result ≡ checked (refused pool.now.pool (Test.IsOwner owner ∷ Test.HasRoom 1 ∷ Test.Fits owner overhead ∷ [])) }
 {
@@ -199,6 +212,7 @@ fn check_known(x: Obj, second: Test, pool: &ObjectPool) -> Result<(), Refusal>
 }
 
 /// The tests of having an immediate come no more.
+#[inline(always)]
 fn check_immediate(x: Obj, pool: &ObjectPool) -> Result<(), Refusal>
     ensures { result ≡ checked (refused pool.now.pool (Test.IsObject x ∷ Test.IsImmediate x ∷ Test.IsNotDoomed x ∷ [])) }
 {
@@ -206,6 +220,7 @@ fn check_immediate(x: Obj, pool: &ObjectPool) -> Result<(), Refusal>
 }
 
 /// The tests of setting or telling something of an event on a descriptor.
+#[inline(always)]
 fn check_watcher(x: Obj, pool: &ObjectPool) -> Result<(), Refusal>
     ensures { result ≡ checked (refused pool.now.pool (Test.IsObject x ∷ Test.IsDescriptor x ∷ Test.IsNotDoomed x ∷ [])) }
 {
@@ -213,6 +228,7 @@ fn check_watcher(x: Obj, pool: &ObjectPool) -> Result<(), Refusal>
 }
 
 /// The tests of a call on a request in any state.
+#[inline(always)]
 fn check_request(x: Obj, pool: &ObjectPool) -> Result<(), Refusal>
     ensures { result ≡ checked (refused pool.now.pool (Test.IsObject x ∷ Test.IsRequest x ∷ [])) }
 {

@@ -36,7 +36,7 @@ impl<'a> Subject<'a> {
     }
 
     /// The objects with the row of this one at hand, if there is such an object.
-    #[inline]
+    #[inline(always)]
     pub fn object(x: Obj, pool: &'a ObjectPool) -> Subject<'a>
         ensures { result ≡ pool.now.pool }
     {

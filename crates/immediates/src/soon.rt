@@ -175,6 +175,7 @@ impl Soon {
     }
 
     /// The one whose turn it is in a context. None exactly where none waits there.
+    #[inline(always)]
     fn next(&self, c: Obj) -> Option<Obj>
         ensures next { result ≡ next_in self.now.coming c }
         ensures once { AreOnce self.now.coming }
@@ -203,6 +204,7 @@ impl Soon {
     }
 
     /// Takes out all that wait in a context, which stays. It takes the time of those that wait there.
+    #[inline(always)]
     pub fn clear(&mut self, c: Obj)
         ensures coming { self.new.coming ≡ soon_without self.old.coming c }
         ensures none { soon_in self.new.coming c ≡ [] }

@@ -63,6 +63,7 @@ impl LaneEnds {
     }
 
     /// The ends of a lane. None exactly where there is no such lane.
+    #[inline(always)]
     pub fn get(&self, lane: u64) -> Option<Extent>
         ensures { result ≡ map.get self.now.lanes lane }
     {
@@ -73,6 +74,7 @@ impl LaneEnds {
     }
 
     /// Sets the ends of a lane.
+    #[inline(always)]
     pub fn set(&mut self, lane: u64, ends: Extent)
         requires known { IsSome (map.get self.old.lanes lane) }
         requires whole { IsWhole ends }
@@ -106,6 +108,7 @@ impl LaneEnds {
     }
 
     /// Drops a lane. Lane 0 stays as it is, and so do the lanes where there is none under the number.
+    #[inline(always)]
     pub fn drop_lane(&mut self, lane: u64)
         ensures lanes { self.new.lanes ≡ without_lane self.old.lanes lane }
         ensures spare { self.old.spare ≤ self.new.spare }

@@ -119,20 +119,3 @@ fn nothing_comes_in_a_context_that_is_dropped(rt: HostRuntime) -> Result<(), Fai
     assert_eq!(rt; events.clock(FIRST, 100, true), Pick::Time(Obj(2), 100));
     Ok(())
 }
-
-#[test]
-fn a_turn_is_of_one_context(rt: HostRuntime) -> Result<(), Fail> {
-    let mut events = two(&rt, 0)?;
-    events.times.reserve()?;
-    events.times.reserve()?;
-    events.reserve_context()?;
-    events.add_context(Obj(5));
-    events.soon.reserve(1)?;
-    events.soon.push(Obj(6), Obj(5));
-    assert_eq!(rt; events.begin(Obj(5)), Pick::Soon(Obj(6)));
-    assert_eq!(rt; events.begin(Obj(5)), Pick::AskWait(30_000_000));
-    assert_eq!(rt; events.begin(FIRST), Pick::Soon(Obj(1)));
-    events.clear_context(FIRST);
-    assert_eq!(rt; events.begin(FIRST), Pick::AskWait(30_000_000));
-    Ok(())
-}

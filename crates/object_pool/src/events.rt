@@ -5,15 +5,16 @@ ghost use Rattle.std.specs.FinMap as map;
 
 mod noting;
 mod queueing;
+mod turning;
 
-use loop_core::{Loop, Pick};
+use loop_core::Loop;
 use pool_arena::Arena;
 use request_queue::Queues;
 use requests::Requests;
 use std::alloc::Global;
 use std::marker::Model;
 use tree_links::Tree;
-use tree_specs::{FreeStep, Handler, Memory, Obj, Want, Wants};
+use tree_specs::{FreeStep, Handler, Memory, Obj, Want};
 
 /// The events of a host: which of them are to come in which context, and the handler of each; the context whose turn is
 /// under way; the descriptors that are open; the notes of requests; and the queues. Contracts see the lists of those to
@@ -72,10 +73,8 @@ impl Events {
     ghost use Rattle.tree_specs.specs.Events.Handlers.{handler_of};
     ghost use Rattle.tree_specs.specs.Events.Rotation.{is_watching, is_watched, flags_of, flagged, closing, turned_back, closes_with, wanted_of};
     ghost use Rattle.tree_specs.specs.Events.Descriptors.{is_open_in};
-    ghost use Rattle.loop_core.specs.Picks.{begin_pick, clock_pick, ready_pick};
-    ghost use Rattle.object_pool.specs.Upcoming.{nothing_comes, here, pending, pending_most, HasPlace, KeepsPlaces, holds_context, HoldsUsable, KeepsContexts, KeepsAllBut, without_gone, picked, soon_with, timed_with, watching_with, with_watch, with_open, with_closed, without_event, stilled, cleared, forgotten, IsForgettable, MayForget, gone_by, turned_to};
+    ghost use Rattle.object_pool.specs.Upcoming.{nothing_comes, here, pending_most, HasPlace, KeepsPlaces, holds_context, HoldsUsable, KeepsContexts, KeepsAllBut, without_gone, soon_with, timed_with, watching_with, with_watch, with_open, with_closed, without_event, stilled, cleared, forgotten, IsForgettable, MayForget, gone_by};
     ghost use Rattle.tree_specs.specs.declared.object.Obj.{Obj as ObjData};
-    ghost use Rattle.tree_specs.specs.Events.Pending.{soon_in, times_in};
     ghost use Rattle.tree_specs.specs.Events.Rotation.{ring_in};
     ghost use Rattle.tree_specs.specs.Events.Queues.{has_entries};
     ghost use Rattle.std.specs.Prelude.{Some};
@@ -146,22 +145,6 @@ impl Events {
         ensures { result ≡ here self.now.upcoming }
     {
         self.turning.unwrap_or(Obj::first_context())
-    }
-
-    /// The context whose turn is under way, where it is an object.
-    pub fn turning(&self) -> Option<Obj>
-        ensures { result ≡ self.now.upcoming.turning }
-    {
-        self.turning
-    }
-
-    /// Notes the context whose turn is under way, where it is an object.
-    pub fn turn_to(&mut self, context: Option<Obj>)
-        ensures upcoming { self.new.upcoming ≡ turned_to context self.old.upcoming }
-        ensures kept { KeepsPlaces self.old self.new }
-        ensures contexts { KeepsContexts self.old self.new }
-    {
-        self.turning = context;
     }
 
     /// Schedules an event: it comes soon in the handler's context, after all others, and the handler runs then. One that
@@ -368,44 +351,5 @@ impl Events {
         ensures { result ≡ handler_of self.now.upcoming.handlers x }
     {
         self.handlers.get(x.0).copied()
-    }
-
-    /// How many wait for their turn in a context.
-    pub fn pending(&self, c: Obj) -> u64
-        requires { pending_most self.now.upcoming < 2 ^ 64 }
-        ensures { result ≡ pending c self.now.upcoming }
-    {
-        let Loop { soon, times, ring } = &self.order;
-        (soon.len(c) + times.len(c) + ring.len(c)) as u64
-    }
-
-    /// Begins a turn of the context whose turn is under way, and picks what comes. What was picked waits no more.
-    pub fn begin(&mut self) -> Pick
-        ensures pick { result ≡ begin_pick (soon_in self.old.upcoming.soon (here self.old.upcoming)) (times_in self.old.upcoming.times (here self.old.upcoming)) }
-        ensures upcoming { self.new.upcoming ≡ picked result self.old.upcoming }
-        ensures kept { KeepsPlaces self.old self.new }
-        ensures contexts { KeepsContexts self.old self.new }
-    {
-        let context = self.here();
-        self.order.begin(context)
-    }
-
-    /// Picks what comes once the clock has told the time, in microseconds, in a turn that has `waited` for descriptors
-    /// before, or hasn't. What was picked waits no more.
-    pub fn clock(&mut self, now: u64, waited: bool) -> Pick
-        ensures pick { result ≡ clock_pick waited now (times_in self.old.upcoming.times (here self.old.upcoming)) }
-        ensures upcoming { self.new.upcoming ≡ picked result self.old.upcoming }
-        ensures kept { KeepsPlaces self.old self.new }
-        ensures contexts { KeepsContexts self.old self.new }
-    {
-        let context = self.here();
-        self.order.clock(context, now, waited)
-    }
-
-    /// Picks what comes when these descriptors are ready.
-    pub fn ready(&self, list: &Wants) -> Pick
-        ensures { result ≡ ready_pick list.now (times_in self.now.upcoming.times (here self.now.upcoming)) (ring_in self.now.upcoming.ring (here self.now.upcoming)) }
-    {
-        self.order.ready(self.here(), list)
     }
 }

@@ -243,6 +243,7 @@ impl ObjectPool {
     }
 
     /// The row of an object. None exactly where there is none.
+    #[inline(always)]
     pub fn row(&self, x: Obj) -> Option<&Row>
         ensures { option_copied result ≡ row_of self.now.pool.rows x }
     {
@@ -264,6 +265,7 @@ impl ObjectPool {
     }
 
     /// Whether an owner owns an object.
+    #[inline(always)]
     pub fn owns(&self, owner: Owner, x: Obj) -> bool
         ensures { result ≡ is_below (owner_of self.now.pool.rows x) owner }
     {

@@ -80,7 +80,19 @@ impl<T> Arena<T> {
     }
 
     /// The value of a key. None exactly where it isn't held.
+    #[inline]
     pub fn get(&self, key: u64) -> Option<&T>
+        ensures { option_copied result ≡ get self.now key }
+    {
+        // Many an arena is empty all the time: then no number is looked up.
+        if self.len() == 0 {
+            return None;
+        }
+        self.find(key)
+    }
+
+    /// The same, where something may be held.
+    fn find(&self, key: u64) -> Option<&T>
         ensures { option_copied result ≡ get self.now key }
     {
         match self.places.get(key) {
@@ -101,7 +113,20 @@ impl<T> Arena<T> {
     }
 
     /// Takes the value of a key out, which isn't held from then on. None exactly where it wasn't held.
+    #[inline]
     pub fn take(&mut self, key: u64) -> Option<T>
+        ensures value { result ≡ get self.old key }
+        ensures pairs { self.new.pairs ≡ map.remove self.old.pairs key }
+        ensures spare { self.old.spare ≤ self.new.spare }
+    {
+        if self.len() == 0 {
+            return None;
+        }
+        self.take_out(key)
+    }
+
+    /// The same, where something may be held.
+    fn take_out(&mut self, key: u64) -> Option<T>
         ensures value { result ≡ get self.old key }
         ensures pairs { self.new.pairs ≡ map.remove self.old.pairs key }
         ensures spare { self.old.spare ≤ self.new.spare }

@@ -256,7 +256,40 @@ impl Places {
     }
 
     /// Takes memory for n more keys, where so many are held. If memory runs out, the slots are as they were.
+    #[inline]
     pub(crate) fn reserve(&mut self, n: usize, held: usize) -> Result<(), AllocError>
+        requires { IsSound self.old }
+        ensures same { IsSame self.old self.new }
+        ensures room { OnOk result (n ≤ spare self.new) }
+    {
+        // Memory is there almost always.
+        if self.has_heads(held) && self.has_room(n) {
+            return Ok(());
+        }
+        self.find_room(n, held)
+    }
+
+    /// Whether there are as many heads as there should be for so many keys, so that few of these share one.
+    #[inline]
+    fn has_heads(&self, held: usize) -> bool
+        ensures { IsTrue result → 0 < length self.now.heads.items }
+    {
+        held < self.heads.len() / 4
+    }
+
+    /// Whether there is memory for n more nodes.
+    #[inline]
+    fn has_room(&self, n: usize) -> bool
+        ensures { IsTrue result → n ≤ spare self.now }
+    {
+        let most = self.nodes.capacity().min(NOWHERE as usize);
+        n <= most.saturating_sub(self.nodes.len())
+    }
+
+    /// Takes memory for n more keys where it isn't there, or where many would share a head.
+    #[cold]
+    #[inline(never)]
+    fn find_room(&mut self, n: usize, held: usize) -> Result<(), AllocError>
         requires { IsSound self.old }
         ensures same { IsSame self.old self.new }
         ensures room { OnOk result (n ≤ spare self.new) }
@@ -267,15 +300,13 @@ impl Places {
         self.grow(n)
     }
 
-    /// Whether there are fewer heads than four times the keys that are held, so that many would share one, or more nodes
-    /// that hold nothing than keys, so that memory is lost. A few of these, or few beside the heads, do no harm.
-    #[inline]
+    /// Whether there are too few heads for the keys that are held, or more nodes that hold nothing than keys, so that
+    /// memory is lost. A few of these, or few beside the heads, do no harm.
     fn is_crowded(&self, held: usize) -> bool
         ensures { result ≡ false → 0 < length self.now.heads.items }
     {
-        let heads = self.heads.len();
         let vacant = self.nodes.len().saturating_sub(held);
-        heads / 4 <= held || vacant > held.max(heads / 8).max(64)
+        !self.has_heads(held) || vacant > held.max(self.heads.len() / 8).max(64)
     }
 
     /// Takes memory for so many more nodes.

@@ -108,11 +108,3 @@ module _ (m : map.FinMap nat_cmp Node) where
       (descends-to (bare ps) (subst Descends (sym (pairs-bare ps)) d))
       (λ q. same-numbers _ _ (sym (find-target (list_of m) q) ∙ target-in q ∙ sym (look q) ∙ ap (λ l. target_of l (numbered q)) (sym (pairs-bare ps)) ∙ find-target (bare ps) q)))
       ∙ pairs-bare ps
-
--- nothing is found in an empty map
-pub none-in : {X : Type 0} (m : map.FinMap nat_cmp X) (q : ℕ) → map.len m ≡ 0 → map.get m q ≡ None
-none-in {X} m q e = get-entries m q ∙ go (map.entries m) (sym (len-entries m) ∙ e)
-  where
-    go : (es : List (ℕ × X)) → length es ≡ 0 → find nat_cmp q es ≡ None
-    go [] l = refl
-    go (e ∷ es) l = cc

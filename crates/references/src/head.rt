@@ -15,35 +15,24 @@ pub(crate) struct Head {
     pub count: u32,
 }
 
-/// The newest reference to an object. None exactly where there is none.
-pub(crate) fn newest(heads: &Arena<Head>, target: u64) -> Option<u64>
-    ensures { result ≡ option_map newest_of (get heads.now target) }
+/// The newest of the references to an object. None exactly where there is none.
+pub(crate) fn newest(head: Option<Head>) -> Option<u64>
+    ensures { result ≡ option_map newest_of head }
 {
-    match find(heads, target) {
+    match head {
         None => None,
         Some(head) => Some(head.newest),
     }
 }
 
 /// How many references there are to an object.
-pub(crate) fn count(heads: &Arena<Head>, target: u64) -> u32
-    ensures { result ≡ count_of (get heads.now target) }
+pub(crate) fn count(head: Option<Head>) -> u32
+    ensures { result ≡ count_of head }
 {
-    match find(heads, target) {
+    match head {
         None => 0,
         Some(head) => head.count,
     }
-}
-
-/// The references to an object. None exactly where there is none.
-fn find(heads: &Arena<Head>, target: u64) -> Option<Head>
-    ensures { result ≡ get heads.now target }
-{
-    // Most trees have no references at all: then no number is looked up.
-    if heads.len() == 0 {
-        return None;
-    }
-    heads.get(target).copied()
 }
 
 /// Adds a reference to those to its target as the newest, and gives the one that was the newest. None exactly where

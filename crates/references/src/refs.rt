@@ -153,7 +153,17 @@ impl Refs {
         ensures first { result ≡ first_to self.now.pairs target }
         ensures sound { ArePairs self.now.pairs }
     {
-        obj(newest(&self.heads, target.0))
+        self.refs_to(target).0
+    }
+
+    /// The newest reference to an object, and how many there are.
+    fn refs_to(&self, target: Obj) -> (Option<Obj>, u32)
+        ensures first { result.0 ≡ first_to self.now.pairs target }
+        ensures count { result.1 ≡ count_to self.now.pairs target }
+        ensures sound { ArePairs self.now.pairs }
+    {
+        let head = self.heads.get(target.0).copied();
+        (obj(newest(head)), count(head))
     }
 
     /// The newest reference to an object. None exactly where there is none. The references are those among the rows.
@@ -184,8 +194,11 @@ impl Refs {
         requires distinct { Distinct tree.now.rows }
         ensures { result ≡ newest_ref_of tree.now.rows owner target }
     {
-        let mut at = self.first_ref(target);
-        let mut left = self.count_refs(target);
+        let (mut at, mut left) = self.refs_to(target);
+        // Nothing refers to most objects.
+        if left == 0 {
+            return None;
+        }
         let mut child = tree.first_kid(owner);
         let mut newest = None;
         while left > 0 {
@@ -235,7 +248,7 @@ impl Refs {
         ensures count { result ≡ count_to self.now.pairs target }
         ensures sound { ArePairs self.now.pairs }
     {
-        count(&self.heads, target.0)
+        self.refs_to(target).1
     }
 
     /// How many references there are to an object. The references are those among the rows.

@@ -113,6 +113,7 @@ impl Heaps {
     }
 
     /// The time in the last place of the heap of a context. None exactly where there is none.
+    #[inline(always)]
     pub fn last(&self, c: u64) -> Option<Due>
         ensures { result ≡ slice_get (dues_in self.now c) (length (dues_in self.now c) - 1) }
     {

@@ -189,6 +189,7 @@ impl Times {
     }
 
     /// An object whose time in a context leaves in one step. None exactly where there is none.
+    #[inline(always)]
     fn last(&self, c: Obj) -> Option<Obj>
         ensures armed { IfSome result (λ x. is_armed (times_in self.now.dues c) x ≡ true) }
         ensures none { result ≡ None → times_in self.now.dues c ≡ [] }
@@ -198,6 +199,7 @@ impl Times {
     }
 
     /// Takes out all times of a context, which stays.
+    #[inline(always)]
     pub fn clear(&mut self, c: Obj)
         ensures dues { self.new.dues ≡ times_without self.old.dues c }
         ensures none { times_in self.new.dues c ≡ [] }

@@ -87,6 +87,7 @@ impl Tree {
     /// Takes memory for so many more rows, and for the works of all frees that these and the present rows can need
     /// until the next destructor runs: one for each of them, and two. If memory runs out, rows and works are as they
     /// were.
+    #[inline(always)]
     pub fn reserve(&mut self, rows: usize) -> Result<(), Memory>
         ensures rows { pool_of self.new ≡ pool_of self.old }
         ensures spare { OnOk result (rows ≤ self.new.spare) }
@@ -227,6 +228,7 @@ impl Tree {
 
     /// The child of the same owner that was placed last before this one. None exactly where there is none, or
     /// `x` has no owner.
+    #[inline(always)]
     pub fn next_kid(&self, x: Obj) -> Option<Obj>
         ensures { result ≡ kid_next self.now.rows x }
     {
@@ -245,6 +247,7 @@ impl Tree {
     }
 
     /// Whether an owner owns an object: it is its own owner, and not only one that it is inside.
+    #[inline(always)]
     pub fn owns(&self, owner: Owner, x: Obj) -> bool
         ensures { result ≡ is_below (owner_of self.now.rows x) owner }
     {

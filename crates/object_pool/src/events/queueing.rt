@@ -24,6 +24,7 @@ impl Events {
 
     /// Puts a queue behind all others that come soon in the context that it is to come in, if it is. Where this isn't
     /// usable it comes no more.
+    #[inline(always)]
     fn look_at(&mut self, queue: Option<Coming>, tree: &Tree)
         requires room { IsSome queue → length self.old.upcoming.queues.entries < self.old.soon_spare }
         requires usable { HoldsUsable tree.now.rows self.old }

@@ -1,4 +1,4 @@
-use Rattle.std.proofs.Common.{◌≡◌, List, Bool, sym, ap, ◌∙◌}
+use Rattle.std.proofs.Common.{◌≡◌, List, Bool, sym, ap, ◌∙◌, arith}
 use Rattle.tree_specs.specs.declared.object.Obj.{Obj}
 use Rattle.tree_specs.specs.declared.object.Owner.{Owner}
 use Rattle.tree_specs.specs.declared.row.Row.{Row}
@@ -22,20 +22,25 @@ walked rs ps o x descends distinct refs = passes-first (owned rs o) ps x descend
 
 pub loop-left-init : goal.loop-left-init
 loop-left-init c = (
-  ap (first_passing (owned c.args.tree.now.rows c.args.owner) c.args.self.now.pairs _) c.first_ref-at.ensures.first
-      ∙ ap (λ n. first_passing (owned c.args.tree.now.rows c.args.owner) c.args.self.now.pairs n (first_to c.args.self.now.pairs c.args.target)) c.count_refs-left.ensures.count,
+  ap (first_passing (owned c.args.tree.now.rows c.args.owner) c.args.self.now.pairs _) c.refs_to-at.ensures.first
+      ∙ ap (λ n. first_passing (owned c.args.tree.now.rows c.args.owner) c.args.self.now.pairs n (first_to c.args.self.now.pairs c.args.target)) c.refs_to-at.ensures.count,
   at-first c.args.self.now.pairs c.args.tree.now.rows c.args.owner c.args.target c.first_kid-child.result c.requires.distinct c.requires.refs c.first_kid-child.ensures,
 )
+
+pub returns-then-left-eq0 : goal.returns-then-left-eq0
+returns-then-left-eq0 c =
+    sym (passes-end (owned c.args.tree.now.rows c.args.owner) c.args.self.now.pairs _ _ (omega (arith, c.refs_to-at.ensures.count, c.if-left-eq0.true)))
+    ∙ walked c.args.tree.now.rows c.args.self.now.pairs c.args.owner c.args.target c.refs_to-at.ensures.sound.descends c.requires.distinct c.requires.refs
 
 pub returns-in_default : goal.returns-in_default
 returns-in_default c =
     sym (passes-none (owned c.args.tree.now.rows c.args.owner) c.args.self.now.pairs c.loop-left.left c.loop-left.at c.in_default.is)
-    ∙ c.loop-left.invariant.0 ∙ walked c.args.tree.now.rows c.args.self.now.pairs c.args.owner c.args.target c.first_ref-at.ensures.sound.descends c.requires.distinct c.requires.refs
+    ∙ c.loop-left.invariant.0 ∙ walked c.args.tree.now.rows c.args.self.now.pairs c.args.owner c.args.target c.refs_to-at.ensures.sound.descends c.requires.distinct c.requires.refs
 
 pub returns-then-owns : goal.returns-then-owns
 returns-then-owns c =
     sym (passes-here (owned c.args.tree.now.rows c.args.owner) c.args.self.now.pairs c.loop-left.left c.loop-left.at c.in-Some.reference c.loop-left-test.true c.in-Some.is (sym c.owns.ensures ∙ c.if-owns.true))
-    ∙ c.loop-left.invariant.0 ∙ walked c.args.tree.now.rows c.args.self.now.pairs c.args.owner c.args.target c.first_ref-at.ensures.sound.descends c.requires.distinct c.requires.refs
+    ∙ c.loop-left.invariant.0 ∙ walked c.args.tree.now.rows c.args.self.now.pairs c.args.owner c.args.target c.refs_to-at.ensures.sound.descends c.requires.distinct c.requires.refs
 
 pub returns-in_default-child : goal.returns-in_default-child
 returns-in_default-child c = at-end c.args.self.now.pairs c.args.tree.now.rows c.args.owner c.args.target c.loop-left.child c.loop-left.newest c.loop-left.invariant.1 c.in_default-child.is
@@ -51,4 +56,4 @@ loop-left-preserved c = (
 pub returns : goal.returns
 returns c =
     sym (passes-end (owned c.args.tree.now.rows c.args.owner) c.args.self.now.pairs c.loop-left.left c.loop-left.at c.loop-left-test.false)
-    ∙ c.loop-left.invariant.0 ∙ walked c.args.tree.now.rows c.args.self.now.pairs c.args.owner c.args.target c.first_ref-at.ensures.sound.descends c.requires.distinct c.requires.refs
+    ∙ c.loop-left.invariant.0 ∙ walked c.args.tree.now.rows c.args.self.now.pairs c.args.owner c.args.target c.refs_to-at.ensures.sound.descends c.requires.distinct c.requires.refs
