@@ -67,9 +67,6 @@ regions-begin = λ i. record {
 
 -- ---- the first line
 
-regions-run : (text : List ℕ) → text ≡ regions_header → runs text ≡ Some regions_runner
-regions-run text e = ap runs e
-
 pub nothing-runs : (text : List ℕ) → bytes_eq text regions_header ≡ false → runs text ≡ None
 nothing-runs text e = ap (λ (b : Bool). if b then Some regions_runner else None) e
 
@@ -80,8 +77,8 @@ no-header line over = by_ended line.ended
     by_ended true = nothing-runs line.text (no-shorter line.text regions_header (let n = over-long line over in omega arith))
     by_ended false = refl
 
-region-taken : (text : List ℕ) (rest : List Line) → text ≡ regions_header → replayed_by runs (ended_line text ∷ rest) ≡ with_front header (replayed_lines (runner_of (reads_line Two) pool_misfit (pool_standing start)) 2 rest)
-region-taken text rest e = taken-so runs text rest regions_runner (regions-run text e) ∙ ap (λ (r : Runner PoolInput). with_front header (replayed_lines r 2 rest)) regions-begin
+region-taken : (text : List ℕ) (rest : List Line) → runs text ≡ Some regions_runner → replayed_by runs (ended_line text ∷ rest) ≡ with_front header (replayed_lines (runner_of (reads_line Two) pool_misfit (pool_standing start)) 2 rest)
+region-taken text rest e = taken-so runs text rest regions_runner e ∙ ap (λ (r : Runner PoolInput). with_front header (replayed_lines r 2 rest)) regions-begin
 
 pub header_line : (s t : RegionStage) (n : ℕ) (text : List ℕ) (r : Result (Unit {0}) Stop) → IsAtHeader s → ready s n → length text ≤ line_limit → TakesHeader text s t r → TakesLine plays (stops text_in) s n text t r
 header_line (Running play) t n text r h one short e = absurd h

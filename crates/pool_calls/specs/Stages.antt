@@ -1,5 +1,5 @@
 -- A schedule of regions that is read: its first line is still to come, or a host with regions runs the others.
-use Rattle.std.specs.Prelude.{◌≡◌, ℕ, List, [], Option, None, Result, Ok, Err}
+use Rattle.std.specs.Prelude.{◌≡◌, ℕ, List, [], Option, Some, None, Result, Ok, Err}
 use Rattle.tree_specs.specs.declared.schedule.Reason.TheVariants.{Form}
 use Rattle.tree_specs.specs.declared.schedule.Version.TheVariants.{Two}
 use Rattle.tree_specs.specs.Texts.Lines.{Line}
@@ -9,7 +9,7 @@ use Rattle.schedule_replay.specs.declared.stop.Stop.TheVariants as errors
 use Rattle.schedule_replay.specs.Plays.{Begins, comes}
 use Rattle.schedule_replay.specs.Replays.{Replayed, replayed_by}
 use Rattle.schedule_replay.specs.Standings.{Waits}
-use Rattle.region_rules.specs.Schedules.{pool_misfit, regions_header, regions_runner, runner_of}
+use Rattle.region_rules.specs.Schedules.{pool_misfit, regions_runner, runner_of}
 use Rattle.pool_calls.specs.declared.stage.RegionStage.{RegionStage}
 use Rattle.pool_calls.specs.declared.stage.RegionStage.TheVariants.{Header, Running}
 use Rattle.pool_calls.specs.Pools.{PoolView, start}
@@ -39,7 +39,7 @@ ready (Running play) n = Waits (pool_standing play.machine)
 -- A host with regions runs the lines after this one, or the line is refused, or there was no memory.
 abbrev pub StartsRegions : List ℕ → Result RegionStage Stop → Type 0
 StartsRegions line (Ok (Header alloc)) = ⊥
-StartsRegions line (Ok (Running play)) = (line ≡ regions_header) × BeginsRegions play
+StartsRegions line (Ok (Running play)) = (runner_of line ≡ Some regions_runner) × BeginsRegions play
 StartsRegions line (Err (errors.Refused n why)) = (n ≡ 1) × (why ≡ Form) × (runner_of line ≡ None)
 StartsRegions line (Err errors.Memory) = Unit {0}
 StartsRegions line (Err errors.Read) = ⊥

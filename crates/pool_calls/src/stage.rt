@@ -1,5 +1,7 @@
 //! How far a schedule of regions is read: its first line is still to come, or a host with regions runs the others.
 ghost use Rattle.std.specs.Prelude.{◌≡◌, IfOk};
+ghost use Rattle.std.specs.Str.{bytes_eq};
+ghost use Rattle.region_rules.specs.Schedules.{regions_header};
 ghost use Rattle.pool_calls.specs.Stages.{BeginsRegions, StartsRegions};
 
 use crate::pooled::Pooled;
@@ -13,6 +15,13 @@ fn begin_regions(alloc: Global) -> Result<Play<Pooled>, Memory>
     ensures { IfOk result BeginsRegions }
 {
     Play::begin(alloc, Version::Two, Pooled::new(alloc)?)
+}
+
+/// Whether this is the first line of a schedule of regions.
+fn is_header(line: &[u8]) -> bool
+    ensures { result ≡ bytes_eq line.now regions_header }
+{
+    line == b"tv regions 1".as_slice()
 }
 
 /// The first line isn't that of a schedule of regions.
@@ -38,7 +47,7 @@ pub enum RegionStage {
 fn stage_after(alloc: Global, line: &[u8]) -> Result<RegionStage, Stop>
     ensures { StartsRegions line.now result }
 {
-    if line != b"tv regions 1".as_slice() {
+    if !is_header(line) {
         return Err(no_header());
     }
     Ok(RegionStage::Running(begin_regions(alloc)?))
